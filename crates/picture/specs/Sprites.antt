@@ -1,0 +1,51 @@
+-- 01, "The register page": a sprite's registers. The coordinates are signed.
+use Prim.Native.Nat.{ℕ, _+_, _-_, _*_, _/_, _%_}
+use lib.Dec.{eqb, leb}
+use lib.IntN.{ℤ, pos, negsuc}
+use Rattle.words.specs.Choice.{if}
+use Rattle.picture.specs.declared.sprite.Sprite.{Sprite}
+
+-- the bits of a signed number, in two's complement with this modulus; negsuc n is -(n + 1)
+abbrev pub rawOf : ℕ → ℤ → ℕ
+rawOf m (pos n) = n % m
+rawOf m (negsuc n) = m - 1 - n % m
+
+-- the signed number with these bits: from the limit on it is negative
+unfoldable pub coordinate : ℕ → ℕ → ℕ → ℤ
+coordinate m limit raw = if (leb limit raw) (negsuc (m - 1 - raw)) (pos raw)
+
+-- X has 10 bits, and 768 to 1023 mean -256 to -1; Y is 9 bits of two's complement
+abbrev pub xOf : ℕ → ℤ
+xOf raw = coordinate 1024 768 raw
+
+abbrev pub yOf : ℕ → ℤ
+yOf raw = coordinate 512 256 raw
+
+-- +0 X low, +1 X high (2 bits), +2 Y low, +3 Y high (1 bit), +4 magnification (4 bits); nothing else is written
+unfoldable pub written : Sprite → ℕ → ℕ → Sprite
+written s place b =
+    record {
+      x =
+          if (eqb place 0) (xOf (rawOf 1024 (s .x) / 256 * 256 + b))
+          (if (eqb place 1) (xOf (b % 4 * 256 + rawOf 1024 (s .x) % 256)) (s .x));
+      y =
+          if (eqb place 2) (yOf (rawOf 512 (s .y) / 256 * 256 + b))
+          (if (eqb place 3) (yOf (b % 2 * 256 + rawOf 512 (s .y) % 256)) (s .y));
+      magnification = if (eqb place 4) (b % 16) (s .magnification);
+    }
+
+-- a low byte of the bits
+abbrev pub lowShown : ℕ → ℤ → ℕ
+lowShown m z = rawOf m z % 256
+
+-- a high byte reads as FFh when the coordinate is negative
+abbrev pub highShown : ℕ → ℤ → ℕ
+highShown m (pos n) = rawOf m (pos n) / 256
+highShown m (negsuc n) = 255
+
+-- what +0 to +3 read as
+unfoldable pub shown : Sprite → ℕ → ℕ
+shown s place =
+    if (eqb place 0) (lowShown 1024 (s .x))
+    (if (eqb place 1) (highShown 1024 (s .x))
+    (if (eqb place 2) (lowShown 512 (s .y)) (if (eqb place 3) (highShown 512 (s .y)) 0)))
