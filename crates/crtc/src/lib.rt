@@ -5,6 +5,7 @@ ghost use Rattle.crtc.specs.Registers.{hasRegister, written};
 ghost use Rattle.crtc.specs.Line.{rasterDue, splitDue, captured, frameEnds, positionAfter, addressAfter, frameStart, counted, lineOf};
 
 // The registers that are kept, at most as wide as document 01 says.
+#[repr(C)]
 pub struct Registers {
     pub r1: u8,
     pub r4: u8,
@@ -17,6 +18,7 @@ pub struct Registers {
 
 // The counters of the current line: row VC, line in the row RC, whether it is an adjust line, its screen
 // address, and the split address that was captured, if one is held.
+#[repr(C)]
 pub struct Counters {
     pub vc: u8,
     pub rc: u8,
@@ -27,6 +29,7 @@ pub struct Counters {
 }
 
 // The registers of the page that counting uses: PRI, split line and address, SSCR.
+#[repr(C)]
 pub struct Video {
     pub pri: u8,
     pub split_line: u8,

@@ -8,6 +8,7 @@ const KEY: [u8; 14] = *b"\xff\x77\xb3\x51\xa8\xd4\x62\x39\x9c\x46\x2b\x15\x8a\xc
 // The lock: whether the chip is unlocked, and how much of the sequence the last bytes are. Stage 0: no byte has come, or
 // the last is a zero after a zero or after none; 1: it isn't zero; 2: a zero after one that isn't; from 3 to 16: that,
 // and one more byte of the sequence for each stage.
+#[repr(C)]
 pub struct Lock {
     pub unlocked: bool,
     pub stage: u8,

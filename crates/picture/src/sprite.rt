@@ -4,6 +4,7 @@ ghost use Prim.Native.Nat.{_<_, _≤_};
 ghost use Rattle.picture.specs.Sprites.{rawOf, coordinate, written, lowShown, highShown, shown};
 
 // X from -256 to 767 and Y from -256 to 255 where written through the page; magnification has 4 bits: 3-2 for X, 1-0 for Y.
+#[repr(C)]
 pub struct Sprite {
     pub x: i16,
     pub y: i16,

@@ -9,6 +9,7 @@ ghost use Rattle.sound.specs.Turns.{advanced, turnsOf};
 
 // One channel. `count` is the lines counted towards the next fall of `pause`, `counter` the passes
 // that LOOP has left, `mark` where LOOP goes back to.
+#[repr(C)]
 pub struct Channel {
     pub enabled: bool,
     pub interrupt: bool,
@@ -44,6 +45,7 @@ pub struct Report {
 }
 
 // The sound state: the channels and the PSG registers.
+#[repr(C)]
 pub struct Sound {
     pub channels: [Channel; 3],
     pub psg: [u8; 16],

@@ -1,0 +1,3 @@
+-- Laws of the chip's calls.
+pub mod Serving
+pub mod ChannelLaws

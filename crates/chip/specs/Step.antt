@@ -1,0 +1,40 @@
+-- 01, "One line": the line step. Sound, raster compare, split compare, counters.
+use mathlib.Core.Path.{_≡_}
+use mathlib.Core.Bool.{Bool}
+use mathlib.Core.List.{List, [], _∷_}
+use Prim.Native.Nat.{ℕ, _≤_}
+use lib.Dec.{eqb}
+use lib.ListN.{length}
+use Rattle.words.specs.Choice.{if, either}
+use Rattle.sound.specs.declared.Report.{Report}
+use Rattle.sound.specs.declared.Did.the-variants.{SatOut}
+use Rattle.sound.specs.Line.{entryOf, soundLine}
+use Rattle.crtc.specs.Line.{lineOf}
+use Rattle.chip.specs.declared.Chip.{Chip}
+use Rattle.chip.specs.declared.Stepped.{Stepped}
+use Rattle.chip.specs.State.{withSound, withCounters, withRaster}
+use Rattle.chip.specs.Contracts.{done, wrongLength, served}
+
+-- RAM has 65,536 bytes
+unfoldable pub stepAnswer : List ℕ → ℕ
+stepAnswer ram = if (eqb (length ram) 65536) done wrongLength
+
+-- each channel reported as sitting out, and no cycles
+unfoldable pub idleReport : Report
+idleReport = record { cycles = 0; entries = entryOf SatOut ∷ entryOf SatOut ∷ entryOf SatOut ∷ [] }
+
+-- raster compare, split compare and counters; a raised interrupt waits beside one that waits already
+unfoldable pub counted : Chip → Chip
+counted c =
+    withRaster (withCounters c (lineOf (c .crtc .registers) (c .video) (c .crtc .counters) .counters))
+    (either (lineOf (c .crtc .registers) (c .video) (c .crtc .counters) .raster) (c .interrupts .raster))
+
+unfoldable pub stepped : List ℕ → Chip → Chip
+stepped ram c = counted (withSound c (soundLine ram (c .sound) .sound))
+
+-- what the line step promises; no line costs over 28 cycles
+pub record Steps (c : Chip) (ram : List ℕ) (r : Stepped) : Type 0 where
+  pub answer : r .answer ≡ stepAnswer ram
+  pub chip : r .chip ≡ served (stepAnswer ram) (stepped ram c) c
+  pub report : r .report ≡ served (stepAnswer ram) (soundLine ram (c .sound) .report) idleReport
+  pub bound : r .report .cycles ≤ 28

@@ -1,0 +1,92 @@
+// The chip: its state, and the calls that read and change it.
+use crtc::Counters;
+use crtc::Registers;
+use crtc::Video;
+use lock::Lock;
+use picture::sprite::Sprite;
+use sound::Report;
+use sound::Sound;
+
+pub mod acknowledge;
+pub mod line;
+pub mod ports;
+pub mod start;
+
+// The numbers a call can answer: done;
+pub const DONE: u8 = 0;
+
+// a lent buffer has another length;
+pub const WRONG_LENGTH: u8 = 1;
+
+// an address outside the page, or the page is not mapped;
+pub const NOT_MAPPED: u8 = 2;
+
+// nothing there to write;
+pub const NOTHING_THERE: u8 = 3;
+
+// the screen mode is 3;
+pub const MODE_THREE: u8 = 4;
+
+// no interrupt is waiting;
+pub const NO_INTERRUPT: u8 = 5;
+
+// no STOP from the start address to FFFEh.
+pub const NO_STOP: u8 = 6;
+
+// The gate array: the screen mode, and whether the register page is mapped.
+#[repr(C)]
+pub struct Gate {
+    pub mode: u8,
+    pub mapped: bool,
+}
+
+// The 6845: the register that the next data write goes to, the registers, the counters.
+#[repr(C)]
+pub struct Crtc {
+    pub selected: u8,
+    pub registers: Registers,
+    pub counters: Counters,
+}
+
+// A raster interrupt that waits, whether the last acknowledge was raster, and IVR. A channel's interrupt stands in the channel.
+#[repr(C)]
+pub struct Interrupts {
+    pub raster: bool,
+    pub last_raster: bool,
+    pub ivr: u8,
+}
+
+// The whole state. The palette has two bytes an entry, low then high.
+#[repr(C)]
+pub struct Chip {
+    pub lock: Lock,
+    pub gate: Gate,
+    pub crtc: Crtc,
+    pub video: Video,
+    pub sprites: [Sprite; 16],
+    pub palette: [u8; 64],
+    pub sound: Sound,
+    pub interrupts: Interrupts,
+}
+
+// The answer number of a call, and the chip after it.
+#[repr(C)]
+pub struct Answered {
+    pub answer: u8,
+    pub chip: Chip,
+}
+
+// An acknowledge's answer: the number, the chip, the vector.
+#[repr(C)]
+pub struct Acknowledged {
+    pub answer: u8,
+    pub chip: Chip,
+    pub vector: u8,
+}
+
+// A line step's answer: the number, the chip, the report of sound.
+pub struct Stepped {
+    pub answer: u8,
+    pub chip: Chip,
+    pub report: Report,
+}

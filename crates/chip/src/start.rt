@@ -1,0 +1,83 @@
+// Reset.
+use crate::Chip;
+use crate::Crtc;
+use crate::Gate;
+use crate::Interrupts;
+use crtc::Counters;
+use crtc::Registers;
+use crtc::Video;
+use lock::Lock;
+use picture::sprite::Sprite;
+use sound::Channel;
+use sound::Sound;
+ghost use Rattle.chip.specs.Reset.{Reset};
+
+// The chip after reset.
+pub fn reset() -> Chip
+    ensures { λ r. ⌜ Reset r ⌝ }
+{
+    let lock = Lock::new();
+    let registers = Registers {
+        r1: 0,
+        r4: 0,
+        r5: 0,
+        r6: 0,
+        r9: 0,
+        r12: 0,
+        r13: 0,
+    };
+    let counters = Counters {
+        vc: 0,
+        rc: 0,
+        adjust: false,
+        address: 0,
+        held: false,
+        split: 0,
+    };
+    let channel = Channel {
+        enabled: false,
+        interrupt: false,
+        address: 0,
+        prescale: 0,
+        pause: 0,
+        count: 0,
+        counter: 0,
+        mark: 0,
+    };
+    let sprite = Sprite {
+        x: 0,
+        y: 0,
+        magnification: 0,
+    };
+    let channels = [channel; 3];
+    let psg = [0u8; 16];
+    let sprites = [sprite; 16];
+    let palette = [0u8; 64];
+    Chip {
+        lock,
+        gate: Gate {
+            mode: 0,
+            mapped: false,
+        },
+        crtc: Crtc {
+            selected: 0,
+            registers,
+            counters,
+        },
+        video: Video {
+            pri: 0,
+            split_line: 0,
+            split_high: 0,
+            split_low: 0,
+            sscr: 0,
+        },
+        sprites,
+        palette,
+        sound: Sound { channels, psg },
+        interrupts: Interrupts {
+            raster: false,
+            last_raster: false,
+            ivr: 1,
+        },
+    }
+}

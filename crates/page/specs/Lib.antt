@@ -1,0 +1,3 @@
+-- 01, "The register page": what stands at each address, and reads and writes.
+pub mod Address
+pub mod Page

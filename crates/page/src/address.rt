@@ -1,0 +1,121 @@
+// What stands at an address of the register page.
+ghost use Rattle.page.specs.Address.{Decodes, videoAt, channelAt, spriteAt, registerAt};
+ghost use mathlib.Core.Path.{_≡_};
+ghost use Prim.Native.Nat.{_<_};
+
+// PRI, the split's registers and SSCR.
+pub enum VideoRegister {
+    Pri,
+    SplitLine,
+    SplitHigh,
+    SplitLow,
+    Sscr,
+}
+
+// A sound channel's registers.
+pub enum ChannelRegister {
+    StartLow,
+    StartHigh,
+    Prescale,
+}
+
+// A register of the page. `Pixel` has the byte's place in the store, `Sprite` the sprite and the register's place in it, `Palette`
+// the byte's place, `Channel` the channel. `Status` is an address that only reads, as DCSR does; `Empty` has no register.
+pub enum Register {
+    Pixel(usize),
+    Sprite(usize, u8),
+    Palette(usize),
+    Video(VideoRegister),
+    Ivr,
+    Converter,
+    Channel(usize, ChannelRegister),
+    Dcsr,
+    Status,
+    Empty,
+}
+
+// At 6000h + offset.
+fn sprite_at(offset: u16) -> Register
+    requires { ⌜ offset < 128 ⌝ }
+    ensures { λ r. ⌜ Decodes (spriteAt offset) r ⌝ }
+{
+    let place = (offset % 8) as u8;
+    if 5 <= place {
+        return Register::Empty;
+    }
+    Register::Sprite((offset / 8) as usize, place)
+}
+
+// At 6800h + offset.
+fn video_at(offset: u16) -> Register
+    ensures { λ r. ⌜ Decodes (videoAt offset) r ⌝ }
+{
+    match offset {
+        0 => Register::Video(VideoRegister::Pri),
+        1 => Register::Video(VideoRegister::SplitLine),
+        2 => Register::Video(VideoRegister::SplitHigh),
+        3 => Register::Video(VideoRegister::SplitLow),
+        4 => Register::Video(VideoRegister::Sscr),
+        5 => Register::Ivr,
+        6 => Register::Empty,
+        7 => Register::Empty,
+        _ => Register::Converter,
+    }
+}
+
+// At 6C00h + offset.
+fn channel_at(offset: u16) -> Register
+    ensures { λ r. ⌜ Decodes (channelAt offset) r ⌝ }
+{
+    if offset == 15 {
+        return Register::Dcsr;
+    }
+    if 12 <= offset {
+        return Register::Status;
+    }
+    let n = (offset / 4) as usize;
+    let place = offset % 4;
+    match place {
+        0 => Register::Channel(n, ChannelRegister::StartLow),
+        1 => Register::Channel(n, ChannelRegister::StartHigh),
+        2 => Register::Channel(n, ChannelRegister::Prescale),
+        _ => Register::Status,
+    }
+}
+
+// What stands at an address.
+pub fn register_at(address: u16) -> Register
+    ensures { λ r. ⌜ Decodes (registerAt address) r ⌝ }
+{
+    if address < 0x4000 {
+        return Register::Empty;
+    }
+    if address < 0x5000 {
+        return Register::Pixel((address - 0x4000) as usize);
+    }
+    if address < 0x6000 {
+        return Register::Empty;
+    }
+    if address < 0x6080 {
+        return sprite_at(address - 0x6000);
+    }
+    if address < 0x6400 {
+        return Register::Empty;
+    }
+    if address < 0x6440 {
+        return Register::Palette((address - 0x6400) as usize);
+    }
+    if address < 0x6800 {
+        return Register::Empty;
+    }
+    if address < 0x6810 {
+        return video_at(address - 0x6800);
+    }
+    if address < 0x6c00 {
+        return Register::Empty;
+    }
+    if address < 0x6c10 {
+        return channel_at(address - 0x6c00);
+    }
+    Register::Empty
+}

@@ -1,0 +1,2 @@
+-- Laws that the crates above share.
+pub mod Lists
