@@ -1,0 +1,104 @@
+-- Demand 3 is not empty: from every chip there are runs of every length, and there are chips with ready channels.
+use mathlib.Core.Path.{_≡_, refl, ap}
+use mathlib.Core.Bool.{Bool, true, false}
+use mathlib.Core.List.{List, [], _∷_}
+use Prim.Native.Nat.{ℕ, zero, suc, _<_, _≤_}
+use native.Mathlib.Omega.{arith}
+use borrow.Author.Tests.{eq-eqb, ne-eqb}
+use lib.Dec.{eqb}
+use lib.ListN.{length, replicate}
+use contract.Lifetimes.{Lfts}
+use denote.Ref.{RefT, now}
+use Rattle.words.specs.Choice.{if}
+use Rattle.sound.specs.declared.Channel.{Channel}
+use Rattle.sound.specs.declared.Report.{Report}
+use Rattle.sound.specs.Line.{soundLine}
+use Rattle.sound.proofs.Laws.{line-cycles}
+use Rattle.chip.specs.declared.Chip.{Chip}
+use Rattle.chip.specs.declared.Stepped.{Stepped}
+use Rattle.chip.specs.Contracts.{served}
+use Rattle.chip.specs.Reset.{resetChip}
+use Rattle.chip.specs.State.{withChannels}
+use Rattle.chip.specs.Step.{stepAnswer, idleReport, stepped, Steps}
+use Rattle.forecast.specs.Rule.{even}
+use Rattle.forecast.specs.Demand.{channel, Ready, Lent, Run, ended, refused, line}
+
+-- a buffer as it is lent, and a lifetime
+abbrev pub lending : List ℕ → RefT (List ℕ)
+lending bytes = record { ptr = (0, 0); name = 0; now = bytes }
+
+abbrev pub lifetime : Lfts 1
+lifetime = ([], tt)
+
+-- the answer that a line step promises
+abbrev pub stepOf : List ℕ → Chip → Stepped
+stepOf ram c =
+    record {
+      answer = stepAnswer ram;
+      chip = served (stepAnswer ram) (stepped ram c) c;
+      report = served (stepAnswer ram) (soundLine ram (c .sound) .report) idleReport;
+    }
+
+pub steps : (ram : List ℕ) (c : Chip) → Steps c ram (stepOf ram c)
+unfolding idleReport
+steps ram c = record { answer = refl; chip = refl; report = refl; bound = by-answer (eqb (stepAnswer ram) 0) }
+  where
+    by-answer : (t : Bool) → (if t (soundLine ram (c .sound) .report) idleReport) .cycles ≤ 28
+    by-answer true = line-cycles ram (c .sound)
+    by-answer false = omega arith
+
+module _ {n start : ℕ} {ram : List ℕ} {c d : Chip} {reports : List Report} (lent : List ℕ) where
+  -- a served line before a run
+  abbrev pub line-first :
+      stepAnswer lent ≡ 0 → Lent ram start lent → Run n ram start (stepOf lent c .chip) reports d →
+      Run n ram start c (stepOf lent c .report ∷ reports) d
+  line-first z has rest = line lifetime (lending lent) (stepOf lent c) (steps lent c) z has refl refl rest
+
+  -- a refused line before a run
+  abbrev pub refused-first :
+      (stepAnswer lent ≡ 0 → ⊥) → Run n ram start (stepOf lent c .chip) reports d → Run n ram start c reports d
+  refused-first no-zero rest = refused lifetime (lending lent) (stepOf lent c) (steps lent c) no-zero refl rest
+
+-- RAM of 65,536 bytes is served, any other refused
+pub full-served : (ram : List ℕ) → length ram ≡ 65536 → stepAnswer ram ≡ 0
+unfolding stepAnswer
+full-served ram e = simp (eq-eqb _ _ e)
+
+pub part-refused : (ram : List ℕ) → (length ram ≡ 65536 → ⊥) → stepAnswer ram ≡ 0 → ⊥
+unfolding stepAnswer
+part-refused ram other z = absurd (omega (arith, simp (ne-eqb _ _ other) at z))
+
+-- runs of every length: lend the same RAM each time
+pub runs-exist :
+    (n : ℕ) (ram : List ℕ) (start m : ℕ) (c : Chip) → length ram ≡ 65536 →
+    (d : Chip) × (reports : List Report) × Run n ram start c reports d × (length reports ≡ m)
+runs-exist n ram start zero c e = (c, [], ended, refl)
+runs-exist n ram start (suc m) c e =
+    let rest = runs-exist n ram start m (stepOf ram c .chip) e in
+    (rest .0, stepOf ram c .report ∷ rest .1, line-first ram (full-served ram e) (record { words = λ i l. refl }) (rest .2), ap suc (rest .3))
+
+-- a channel that is ready, and a chip with all three so
+abbrev readyChannel : ℕ → ℕ → Channel
+readyChannel start divider =
+    record {
+      enabled = true;
+      interrupt = false;
+      address = even start;
+      prescale = divider;
+      pause = 0;
+      count = 0;
+      counter = 0;
+      mark = 0;
+    }
+
+pub ready-chip : (start divider : ℕ) → (c : Chip) × ((n : ℕ) → n < 3 → Ready start divider (channel c n))
+ready-chip start divider = (withChannels resetChip (replicate 3 (readyChannel start divider)), each)
+  where
+    ready : Ready start divider (readyChannel start divider)
+    ready = record { enabled = refl; address = refl; prescale = refl; pause = refl; counter = refl }
+
+    each : (n : ℕ) → n < 3 → Ready start divider (channel (withChannels resetChip (replicate 3 (readyChannel start divider))) n)
+    each zero h = ready
+    each (suc zero) h = ready
+    each (suc (suc zero)) h = ready
+    each (suc (suc (suc n))) h = absurd (omega arith)

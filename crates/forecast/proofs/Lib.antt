@@ -1,0 +1,22 @@
+-- The laws of the forecast: of the words and what is ahead; of the code's pass; of a channel that plays; of a run of calls.
+pub mod Words
+pub mod Walk
+pub mod Ahead
+pub mod Pass
+pub mod Playing
+pub mod Since
+pub mod Moves
+pub mod Waits
+pub mod WordPlays
+pub mod LinePlays
+pub mod Told
+pub mod Trace
+pub mod Plays
+pub mod Spares
+pub mod Runs
+pub mod Demands
+pub mod Exist
+pub mod Asked
+pub mod AnyList
+pub mod Answer
+pub mod Examples

@@ -1,0 +1,110 @@
+-- 01, "Sound": the forecast, over the words of a list and how many times each passes.
+use mathlib.Core.Bool.{Bool, true, false}
+use mathlib.Core.List.{List, [], _∷_}
+use Prim.Native.Nat.{ℕ, zero, suc, _+_, _-_, _*_, _/_}
+use lib.Dec.{eqb, ltb}
+use lib.ListN.{length, take, drop}
+use Rattle.words.specs.Choice.{if, both, either}
+use Rattle.words.specs.Words.{kindOf, low12, loopBit, stopBit}
+use Rattle.words.specs.declared.WordKind.{WordKind}
+use Rattle.words.specs.declared.WordKind.the-variants.{Load, Pause, Repeat, Control, Nothing}
+use Rattle.sound.specs.Channels.{wordAt}
+
+-- a word's kind, asked
+abbrev pub isLoad : WordKind → Bool
+isLoad Load = true
+isLoad Pause = false
+isLoad Repeat = false
+isLoad Control = false
+isLoad Nothing = false
+
+abbrev pub isPause : WordKind → Bool
+isPause Load = false
+isPause Pause = true
+isPause Repeat = false
+isPause Control = false
+isPause Nothing = false
+
+abbrev pub isRepeat : WordKind → Bool
+isRepeat Load = false
+isRepeat Pause = false
+isRepeat Repeat = true
+isRepeat Control = false
+isRepeat Nothing = false
+
+abbrev pub isControl : WordKind → Bool
+isControl Load = false
+isControl Pause = false
+isControl Repeat = false
+isControl Control = true
+isControl Nothing = false
+
+-- the word is a REPEAT; has LOOP; has STOP
+unfoldable pub repeats : ℕ → Bool
+repeats w = isRepeat (kindOf w)
+
+unfoldable pub loops : ℕ → Bool
+loops w = both (isControl (kindOf w)) (loopBit (low12 w))
+
+unfoldable pub stops : ℕ → Bool
+stops w = both (isControl (kindOf w)) (stopBit (low12 w))
+
+-- PAUSE M above 0 is M x (prescale + 1) lines, any other word 1
+unfoldable pub linesOf : ℕ → ℕ → ℕ
+linesOf prescale w = if (both (isPause (kindOf w)) (ltb 0 (low12 w))) (low12 w * (prescale + 1)) 1
+
+-- 9 cycles for a LOAD, 2 for another word
+unfoldable pub cyclesOf : ℕ → ℕ
+cyclesOf w = if (isLoad (kindOf w)) 9 2
+
+-- at most so many words from an address on, through the first STOP
+unfoldable pub wordsFrom : List ℕ → ℕ → ℕ → List ℕ
+wordsFrom ram zero a = []
+wordsFrom ram (suc n) a = wordAt ram a ∷ elim (stops (wordAt ram a)) [ true ↦ [] | false ↦ wordsFrom ram n (a + 2) ]
+
+-- the words from an address to FFFEh, through the first STOP
+unfoldable pub wordsOf : List ℕ → ℕ → List ℕ
+wordsOf ram a = wordsFrom ram ((65536 - a) / 2) a
+
+-- a STOP stands among the words
+unfoldable pub hasStop : List ℕ → Bool
+hasStop [] = false
+hasStop (w ∷ ws) = either (stops w) (hasStop ws)
+
+-- a LOOP comes next, before any REPEAT, and neither in the STOP's own word nor beyond it
+unfoldable pub closes : List ℕ → Bool
+closes [] = false
+closes (w ∷ ws) = if (stops w) false (if (loops w) true (if (repeats w) false (closes ws)))
+
+-- the count of the last REPEAT before the next word, if no LOOP has come since; else 0
+unfoldable pub openCount : ℕ → ℕ → ℕ
+openCount k w = if (repeats w) (low12 w) (if (loops w) 0 k)
+
+-- how many times the first of the words passes: K + 1 from after a REPEAT K through the next LOOP, else once
+unfoldable pub passes : ℕ → List ℕ → ℕ
+passes k ws = if (closes ws) (k + 1) 1
+
+-- the cost of the words, each with its passes; k is the open count before the first
+unfoldable pub total : (ℕ → ℕ) → ℕ → List ℕ → ℕ
+total cost k [] = 0
+total cost k (w ∷ ws) = passes k (w ∷ ws) * cost w + total cost (openCount k w) ws
+
+-- bit 0 of a start address is dropped
+abbrev pub even : ℕ → ℕ
+even start = start / 2 * 2
+
+-- the forecast's lines and cycles
+unfoldable pub linesForecast : List ℕ → ℕ → ℕ → ℕ
+linesForecast ram start prescale = total (linesOf prescale) 0 (wordsOf ram (even start))
+
+unfoldable pub cyclesForecast : List ℕ → ℕ → ℕ
+cyclesForecast ram start = total cyclesOf 0 (wordsOf ram (even start))
+
+-- 1 for RAM of another length, 6 where no STOP stands from the start to FFFEh, exactly then
+unfoldable pub answerOf : List ℕ → ℕ → ℕ
+answerOf ram start =
+    if (eqb (length ram) 65536) (if (hasStop (wordsOf ram (even start))) 0 6) 1
+
+-- the list itself, from its first byte through its STOP
+unfoldable pub listOf : List ℕ → ℕ → List ℕ
+listOf ram start = take (length (wordsOf ram (even start)) * 2) (drop (even start) ram)

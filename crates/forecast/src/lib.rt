@@ -1,0 +1,268 @@
+// The forecast of a sound list: its lines and cycles before it plays.
+use chip::DONE;
+use chip::NO_STOP;
+use chip::WRONG_LENGTH;
+use words::WordKind;
+ghost use mathlib.Core.Path.{_≡_};
+ghost use mathlib.Core.List.{[]};
+ghost use Prim.Native.Nat.{_^_, _≤_};
+ghost use lib.Dec.{eqb};
+ghost use Rattle.words.specs.Choice.{if};
+ghost use Rattle.forecast.specs.Rule.{isLoad, isPause, isRepeat, isControl, repeats, loops, stops};
+ghost use Rattle.forecast.specs.Rule.{linesOf, cyclesOf, openCount, answerOf, listOf};
+ghost use Rattle.forecast.specs.Contract.{Forecasts};
+ghost use Rattle.forecast.specs.Pass.{added, passed, Room, Open, bytesFrom};
+
+// The length of RAM.
+const RAM_BYTES: usize = 65536;
+
+// The address of its last word, FFFEh.
+const LAST_WORD: usize = 65534;
+
+// What the forecast answers: a number of the table, and where it is 0 the list's lines and cycles.
+pub struct Length {
+    pub answer: u8,
+    pub lines: u64,
+    pub cycles: u64,
+}
+
+// Whether the kind is that of a LOAD.
+fn is_load(kind: WordKind) -> bool
+    ensures { λ r. ⌜ r ≡ isLoad kind ⌝ }
+{
+    match kind {
+        WordKind::Load => true,
+        WordKind::Pause => false,
+        WordKind::Repeat => false,
+        WordKind::Control => false,
+        WordKind::Nothing => false,
+    }
+}
+
+// Whether the kind is that of a PAUSE.
+fn is_pause(kind: WordKind) -> bool
+    ensures { λ r. ⌜ r ≡ isPause kind ⌝ }
+{
+    match kind {
+        WordKind::Load => false,
+        WordKind::Pause => true,
+        WordKind::Repeat => false,
+        WordKind::Control => false,
+        WordKind::Nothing => false,
+    }
+}
+
+// Whether the kind is that of a REPEAT.
+fn is_repeat(kind: WordKind) -> bool
+    ensures { λ r. ⌜ r ≡ isRepeat kind ⌝ }
+{
+    match kind {
+        WordKind::Load => false,
+        WordKind::Pause => false,
+        WordKind::Repeat => true,
+        WordKind::Control => false,
+        WordKind::Nothing => false,
+    }
+}
+
+// Whether the kind is that of a control word.
+fn is_control(kind: WordKind) -> bool
+    ensures { λ r. ⌜ r ≡ isControl kind ⌝ }
+{
+    match kind {
+        WordKind::Load => false,
+        WordKind::Pause => false,
+        WordKind::Repeat => false,
+        WordKind::Control => true,
+        WordKind::Nothing => false,
+    }
+}
+
+// Whether a word is a REPEAT.
+fn repeats(word: u16) -> bool
+    ensures { λ r. ⌜ r ≡ repeats word ⌝ }
+{
+    is_repeat(words::kind_of(word))
+}
+
+// Whether a word has LOOP.
+fn loops(word: u16) -> bool
+    ensures { λ r. ⌜ r ≡ loops word ⌝ }
+{
+    is_control(words::kind_of(word)) && words::loop_bit(words::low_12(word))
+}
+
+// Whether a word has STOP.
+fn stops(word: u16) -> bool
+    ensures { λ r. ⌜ r ≡ stops word ⌝ }
+{
+    is_control(words::kind_of(word)) && words::stop_bit(words::low_12(word))
+}
+
+// The lines of one pass of a word.
+fn lines_of(word: u16, prescale: u8) -> u64
+    ensures { λ r. ⌜ r ≡ linesOf prescale word ⌝ }
+{
+    if !is_pause(words::kind_of(word)) {
+        return 1;
+    }
+    let low = words::low_12(word);
+    if low == 0 {
+        return 1;
+    }
+    low as u64 * (prescale as u64 + 1)
+}
+
+// The cycles of one pass of a word.
+fn cycles_of(word: u16) -> u64
+    ensures { λ r. ⌜ r ≡ cyclesOf word ⌝ }
+{
+    if is_load(words::kind_of(word)) {
+        return 9;
+    }
+    2
+}
+
+// The open count after a word: that of the last REPEAT, 0 once a LOOP has come.
+fn open_count(count: u16, word: u16) -> u16
+    ensures { λ r. ⌜ r ≡ openCount count word ⌝ }
+{
+    if repeats(word) {
+        return words::low_12(word);
+    }
+    if loops(word) {
+        return 0;
+    }
+    count
+}
+
+// A cost summed up over the words so far: all of it, and one pass of the words since the last REPEAT.
+struct Sums {
+    total: u64,
+    since: u64,
+}
+
+impl Sums {
+    // One more word, of this cost: a LOOP goes back over the words since the REPEAT, itself with them.
+    fn added(self, word: u16, count: u16, cost: u64) -> Sums
+        requires { ⌜ Room self ⌝ }
+        requires { ⌜ cost ≤ 2 ^ 20 ⌝ }
+        requires { ⌜ count ≤ 4095 ⌝ }
+        ensures { λ r. ⌜ r ≡ added word count cost self ⌝ }
+    {
+        let total = self.total + cost;
+        let body = self.since + cost;
+        let again = count as u64 * body;
+        let looped = total + again;
+        if stops(word) {
+            return Sums { total, since: body };
+        }
+        if loops(word) {
+            return Sums {
+                total: looped,
+                since: 0,
+            };
+        }
+        if repeats(word) {
+            return Sums { total, since: 0 };
+        }
+        Sums { total, since: body }
+    }
+}
+
+// The pass over the words so far: both sums, and the open count.
+struct Scan {
+    lines: Sums,
+    cycles: Sums,
+    count: u16,
+}
+
+impl Scan {
+    // One more word.
+    fn passed(self, word: u16, prescale: u8) -> Scan
+        requires { ⌜ Open self ⌝ }
+        ensures { λ r. ⌜ r ≡ passed prescale word self ⌝ }
+    {
+        let count = self.count;
+        let lines_so_far = self.lines;
+        let lines = lines_so_far.added(word, count, lines_of(word, prescale));
+        let cycles_so_far = self.cycles;
+        let cycles = cycles_so_far.added(word, count, cycles_of(word));
+        Scan {
+            lines,
+            cycles,
+            count: open_count(count, word),
+        }
+    }
+}
+
+// A refusal.
+fn refused(answer: u8) -> Length
+    ensures { λ r. ⌜ (r .answer ≡ answer) × (r .lines ≡ 0) × (r .cycles ≡ 0) ⌝ }
+{
+    Length {
+        answer,
+        lines: 0,
+        cycles: 0,
+    }
+}
+
+// The lines and cycles of the list at a start address, before it plays.
+pub fn forecast(ram: &[u8], start: u16, prescale: u8) -> Length
+    ensures { λ r. ⌜ Forecasts (now (ram .entry)) start prescale r ⌝ }
+{
+    if ram.len() != RAM_BYTES {
+        return refused(WRONG_LENGTH);
+    }
+    let none = Sums { total: 0, since: 0 };
+    let mut scan = Scan {
+        lines: none,
+        cycles: none,
+        count: 0,
+    };
+    let mut at = start as usize / 2 * 2;
+    while at <= LAST_WORD {
+        let word = sound::word_at(ram, at as u16);
+        scan = scan.passed(word, prescale);
+        if stops(word) {
+            return Length {
+                answer: DONE,
+                lines: scan.lines.total,
+                cycles: scan.cycles.total,
+            };
+        }
+        at += 2;
+    }
+    refused(NO_STOP)
+}
+
+// How many bytes the list takes from an address through its STOP; 0 where no STOP stands.
+fn bytes_from(ram: &[u8], first: usize) -> usize
+    requires { ⌜ first ≤ 65536 ⌝ }
+    ensures { λ r. ⌜ r ≡ bytesFrom (now (ram .entry)) first ⌝ }
+{
+    let mut at = first;
+    while at <= LAST_WORD {
+        let word = sound::word_at(ram, at as u16);
+        if stops(word) {
+            return at + 2 - first;
+        }
+        at += 2;
+    }
+    0
+}
+
+// The list itself, from its first byte through its STOP; empty where the forecast is refused.
+pub fn list(ram: &[u8], start: u16) -> &[u8]
+    ensures { λ r. ⌜ now r ≡ if (eqb (answerOf (now (ram .entry)) start) 0) (listOf (now (ram .entry)) start) [] ⌝ }
+{
+    if ram.len() != RAM_BYTES {
+        return &ram[..0];
+    }
+    let first = start as usize / 2 * 2;
+    let bytes = bytes_from(ram, first);
+    if bytes == 0 {
+        return &ram[..0];
+    }
+    &ram[first..first + bytes]
+}
