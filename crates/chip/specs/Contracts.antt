@@ -6,7 +6,7 @@ use Rattle.words.specs.Choice.{if}
 use Rattle.chip.specs.declared.Chip.{Chip}
 use Rattle.chip.specs.declared.Answered.{Answered}
 
--- the numbers of the table that the chip's calls give
+-- the numbers of the table that the calls on a chip give
 abbrev pub done : ℕ
 done = 0
 
@@ -18,6 +18,9 @@ notMapped = 2
 
 abbrev pub nothingThere : ℕ
 nothingThere = 3
+
+abbrev pub modeThree : ℕ
+modeThree = 4
 
 abbrev pub noInterrupt : ℕ
 noInterrupt = 5
