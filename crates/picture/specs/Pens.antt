@@ -1,8 +1,7 @@
 -- 01, "Drawing the current line": the pens of a screen byte.
-use mathlib.Core.Path.{_≡_}
 use mathlib.Core.List.{List, [], _∷_}
-use Prim.Native.Nat.{ℕ, zero, suc, _+_, _-_, _*_, _/_, _<_}
-use lib.ListN.{take, getD}
+use Prim.Native.Nat.{ℕ, zero, suc, _+_, _-_, _*_, _/_}
+use lib.ListN.{take}
 use Rattle.words.specs.Choice.{bit, ofBool}
 
 -- a pen has one bit in mode 2, two in mode 1 and four in mode 0, and is as many positions wide as it has bits
@@ -26,16 +25,3 @@ pen width b q = gathered (take width places) q b
 -- the pen at one of a byte's 8 positions
 unfoldable pub penAt : ℕ → ℕ → ℕ → ℕ
 penAt width b j = pen width b (j / width)
-
--- what a function gives at n positions from i on
-abbrev pub listed : (ℕ → ℕ) → ℕ → ℕ → List ℕ
-listed f i zero = []
-listed f i (suc n) = f i ∷ listed f (suc i) n
-
--- and at a byte's 8 positions
-abbrev pub eight : (ℕ → ℕ) → List ℕ
-eight f = listed f 0 8
-
--- a table of all screen bytes at this pen width: a byte's pens in order, 8 / width of them
-pub record Table (width : ℕ) (t : List ℕ) : Type 0 where
-  pub rule : (b q : ℕ) → b < 256 → q < 8 / width → getD t (b * (8 / width) + q) 0 ≡ pen width b q

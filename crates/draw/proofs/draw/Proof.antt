@@ -1,0 +1,98 @@
+-- `draw::draw`: the refusals in order, then the parts of the line.
+use native.Mathlib.Omega.{arith}
+use borrow.Author.Tests.{eq-eqb, ne-eqb}
+use Rattle.draw.specs.Drawing.{drawAnswer}
+use Rattle.draw.proofs.Parts.{kept, served}
+use borrow.Author.Needs.{needs}
+use Rattle.draw.proofs.draw.Statement.{statement}
+use Rattle.draw.proofs.draw.Tie as tie
+
+returns : tie.Need-returns
+unfolding drawAnswer
+returns c = kept _ (λ e. omega arith) (simp (ne-eqb _ _ (c .if1 .taken)))
+
+returns-2 : tie.Need-returns-2
+unfolding drawAnswer
+returns-2 c =
+    kept _ (λ e. omega arith) (simp (eq-eqb _ _ (c .before .if1 .left), ne-eqb _ _ (c .if2 .taken)))
+
+returns-3 : tie.Need-returns-3
+unfolding drawAnswer
+returns-3 c =
+    kept _ (λ e. omega arith)
+    (simp (eq-eqb _ _ (c .before .before .if1 .left), eq-eqb _ _ (c .before .if2 .left), ne-eqb _ _ (c .if3 .taken)))
+
+returns-4 : tie.Need-returns-4
+unfolding drawAnswer
+returns-4 c =
+    let l = c .before .before in
+    kept _ (λ e. omega arith)
+    (simp (eq-eqb _ _ (l .before .before .if1 .left), eq-eqb _ _ (l .before .if2 .left), eq-eqb _ _ (l .if3 .left), eq-eqb _ _ (c .if4 .taken)))
+
+row-line-requires : tie.Need-row-line-requires
+row-line-requires c κs = search needs
+
+line-pens-requires : tie.Need-line-pens-requires
+line-pens-requires c κs = search needs
+
+frame-line-requires : tie.Need-frame-line-requires
+frame-line-requires c κs = search needs
+
+overlay-requires : tie.Need-overlay-requires
+overlay-requires c κs = search needs
+
+left-of-requires : tie.Need-left-of-requires
+left-of-requires c κs = search needs
+
+right-of-requires : tie.Need-right-of-requires
+right-of-requires c κs = search needs
+
+scroll-of-requires : tie.Need-scroll-of-requires
+scroll-of-requires c κs = search needs
+
+slice-aggregate-mix : tie.Need-slice-aggregate-mix
+slice-aggregate-mix c = search needs
+
+mix-requires : tie.Need-mix-requires
+mix-requires c κs = search needs
+
+same-length : tie.Need-same-length
+same-length c = search needs
+
+returns-5 : tie.Need-returns-5
+unfolding drawAnswer
+returns-5 c =
+    let m = c .before .before in
+    let s = m .before .before .before in
+    let r = s .before in
+    let l = r .before in
+    let o = l .before in
+    let f = o .before in
+    let p = f .before .before in
+    let g = p .before .before .before .before .before in
+    let e = g .before .before in
+    served _ _ _ _ _ (rw (p .before .row-line .ensures) at (p .line-pens .ensures))
+    (rw (f .frame-line .ensures) at (o .overlay .ensures))
+    (simp (eq-eqb _ _ (e .before .before .if1 .left), eq-eqb _ _ (e .before .if2 .left), eq-eqb _ _ (e .if3 .left), ne-eqb _ _ (g .if4 .left)))
+    (rw (l .left-of .ensures, r .right-of .ensures, s .scroll-of .ensures) at (m .mix .ensures))
+    (search needs)
+
+pub draw-spec : {M : Type 1} → statement M
+draw-spec =
+    tie.close
+    (tie.spec
+    returns
+    returns-2
+    returns-3
+    returns-4
+    row-line-requires
+    line-pens-requires
+    frame-line-requires
+    overlay-requires
+    left-of-requires
+    right-of-requires
+    scroll-of-requires
+    slice-aggregate-mix
+    mix-requires
+    same-length
+    returns-5)

@@ -1,0 +1,13 @@
+-- `draw::left_of`: by bit 7.
+use borrow.Author.Tests.{eq-eqb, ne-eqb}
+use Rattle.draw.proofs.left_of.Statement.{statement}
+use Rattle.draw.proofs.left_of.Tie as tie
+
+returns : tie.Need-returns
+returns c = simp (eq-eqb _ _ (c .if1 .taken))
+
+returns-2 : tie.Need-returns-2
+returns-2 c = simp (ne-eqb _ _ (c .if1 .left))
+
+pub left-of-spec : {M : Type 1} → statement M
+left-of-spec = tie.close (tie.spec returns returns-2)

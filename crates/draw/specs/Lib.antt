@@ -1,0 +1,3 @@
+-- 01, "Drawing the current line".
+pub mod Drawing
+pub mod Mixing
