@@ -1,0 +1,41 @@
+-- What the line step and the forecast promise in their C form. The other calls have the promises of their crates.
+use mathlib.Core.Path.{_≡_}
+use mathlib.Core.List.{List, []}
+use Prim.Native.Nat.{ℕ, _≤_}
+use lib.ListN.{length, take, drop}
+use Rattle.sound.specs.declared.Report.{Report}
+use Rattle.sound.specs.Line.{soundLine}
+use Rattle.chip.specs.declared.Chip.{Chip}
+use Rattle.chip.specs.Contracts.{served}
+use Rattle.chip.specs.Step.{stepAnswer, stepped, idleReport}
+use Rattle.forecast.specs.declared.Length.{Length}
+use Rattle.forecast.specs.Contract.{Forecasts}
+use Rattle.forecast.specs.Rule.{even, answerOf, listOf}
+use Rattle.plus.specs.declared.PlusStepped.{PlusStepped}
+use Rattle.plus.specs.declared.PlusLength.{PlusLength}
+use Rattle.plus.specs.Report.{kindsOf, lowsOf}
+
+-- the report of a line step: the line's, or that of a refusal
+abbrev pub reportOf : Chip → List ℕ → Report
+reportOf c ram = served (stepAnswer ram) (soundLine ram (c .sound) .report) idleReport
+
+-- the line step; no line costs over 28 cycles
+pub record StepReported (c : Chip) (ram : List ℕ) (r : PlusStepped) : Type 0 where
+  pub answer : r .answer ≡ stepAnswer ram
+  pub chip : r .chip ≡ served (stepAnswer ram) (stepped ram c) c
+  pub cycles : r .cycles ≡ reportOf c ram .cycles
+  pub kinds : r .kinds ≡ kindsOf (reportOf c ram .entries)
+  pub lows : r .lows ≡ lowsOf (reportOf c ram .entries)
+  pub bound : r .cycles ≤ 28
+
+-- the part of the answer that forecast's own promise is about
+abbrev pub toldBy : PlusLength → Length
+toldBy r = record { answer = r .answer; lines = r .lines; cycles = r .cycles }
+
+-- the forecast: its own promise, demand 3 with it; and the list as a part of RAM, from the even start, as long as the list is,
+-- 0 and 0 where it is refused
+pub record LengthTold (ram : List ℕ) (start prescale : ℕ) (r : PlusLength) : Type 0 where
+  pub told : Forecasts ram start prescale (toldBy r)
+  pub offset : r .offset ≡ served (answerOf ram start) (even start) 0
+  pub length : r .length ≡ served (answerOf ram start) (length (listOf ram start)) 0
+  pub list : take (r .length) (drop (r .offset) ram) ≡ served (answerOf ram start) (listOf ram start) []

@@ -1,0 +1,193 @@
+// The C interface: every call of the chip under a C name, with structs by value and slices as a pointer and a length.
+use chip::Acknowledged;
+use chip::Answered;
+use chip::Chip;
+use chip::DONE;
+use page::ByteRead;
+use sound::Did;
+use sound::Entry;
+use words::WordKind;
+ghost use mathlib.Core.Path.{_≡_};
+ghost use Rattle.chip.specs.Contracts.{Answers};
+ghost use Rattle.chip.specs.Interrupts.{Acknowledges};
+ghost use Rattle.chip.specs.Ports.{Selects, dataAnswer, dataWritten, gateAnswer, gateWritten};
+ghost use Rattle.chip.specs.Reset.{Reset};
+ghost use Rattle.page.specs.Page.{Reads, Writes};
+ghost use Rattle.draw.specs.Drawing.{Draws};
+ghost use Rattle.plus.specs.Report.{kindNumber, lowOf, kindsOf, lowsOf};
+ghost use Rattle.plus.specs.Promises.{StepReported, LengthTold};
+
+// A line step's answer, without enums: of each channel the number of what it did, and the low 12 bits of its word.
+#[repr(C)]
+pub struct PlusStepped {
+    pub chip: Chip,
+    pub answer: u8,
+    pub cycles: u8,
+    pub kinds: [u8; 3],
+    pub lows: [u16; 3],
+}
+
+// A forecast's answer. The list is that part of RAM which starts at `offset` and has `length` bytes.
+#[repr(C)]
+pub struct PlusLength {
+    pub answer: u8,
+    pub lines: u64,
+    pub cycles: u64,
+    pub offset: u32,
+    pub length: u32,
+}
+
+// The chip after reset.
+#[no_mangle]
+pub extern "C" fn plus_reset() -> Chip
+    ensures { λ r. ⌜ Reset r ⌝ }
+{
+    chip::start::reset()
+}
+
+// A byte written to BCxx.
+#[no_mangle]
+pub extern "C" fn plus_write_bc(chip: Chip, byte: u8) -> Answered
+    ensures { λ r. ⌜ Selects chip byte r ⌝ }
+{
+    chip::ports::write_bc(chip, byte)
+}
+
+// A 6845 data write.
+#[no_mangle]
+pub extern "C" fn plus_write_bd(chip: Chip, byte: u8) -> Answered
+    ensures { λ r. ⌜ Answers (dataAnswer chip) (dataWritten chip byte) chip r ⌝ }
+{
+    chip::ports::write_bd(chip, byte)
+}
+
+// A byte written to 7Fxx.
+#[no_mangle]
+pub extern "C" fn plus_write_7f(chip: Chip, byte: u8) -> Answered
+    ensures { λ r. ⌜ Answers (gateAnswer byte) (gateWritten chip byte) chip r ⌝ }
+{
+    chip::ports::write_7f(chip, byte)
+}
+
+// A byte read from the page.
+#[no_mangle]
+pub extern "C" fn plus_page_read(chip: Chip, store: &[u8], address: u16, bus: u8) -> ByteRead
+    ensures { λ r. ⌜ Reads chip (now (store .entry)) address bus r ⌝ }
+{
+    page::page_read(chip, store, address, bus)
+}
+
+// A byte written to the page.
+#[no_mangle]
+pub extern "C" fn plus_page_write(chip: Chip, store: &mut [u8], address: u16, byte: u8) -> Answered
+    ensures { λ r. ⌜ Writes chip (now (store .entry)) address byte (now (store .exit)) r ⌝ }
+{
+    page::page_write(chip, store, address, byte)
+}
+
+// Interrupt acknowledge.
+#[no_mangle]
+pub extern "C" fn plus_acknowledge(chip: Chip) -> Acknowledged
+    ensures { λ r. ⌜ Acknowledges chip r ⌝ }
+{
+    chip::acknowledge::acknowledge(chip)
+}
+
+// What a channel did, as a number.
+fn kind_number(entry: Entry) -> u8
+    ensures { λ r. ⌜ r ≡ kindNumber (entry .did) ⌝ }
+{
+    let did = entry.did;
+    match did {
+        Did::SatOut => 0,
+        Did::Executed(kind, _) => match kind {
+            WordKind::Load => 1,
+            WordKind::Pause => 2,
+            WordKind::Repeat => 3,
+            WordKind::Control => 4,
+            WordKind::Nothing => 5,
+        },
+    }
+}
+
+// The low 12 bits of the word that a channel executed, or 0.
+fn low_of(entry: Entry) -> u16
+    ensures { λ r. ⌜ r ≡ lowOf (entry .did) ⌝ }
+{
+    let did = entry.did;
+    match did {
+        Did::SatOut => 0,
+        Did::Executed(_, low) => low,
+    }
+}
+
+// What each channel did, as numbers.
+fn kinds_of(entries: [Entry; 3]) -> [u8; 3]
+    ensures { λ r. ⌜ r ≡ kindsOf entries ⌝ }
+{
+    let zero = entries[0];
+    let one = entries[1];
+    let two = entries[2];
+    [kind_number(zero), kind_number(one), kind_number(two)]
+}
+
+// The low 12 bits that each channel reports.
+fn lows_of(entries: [Entry; 3]) -> [u16; 3]
+    ensures { λ r. ⌜ r ≡ lowsOf entries ⌝ }
+{
+    let zero = entries[0];
+    let one = entries[1];
+    let two = entries[2];
+    [low_of(zero), low_of(one), low_of(two)]
+}
+
+// One line: sound, raster compare, split compare, counters.
+#[no_mangle]
+pub extern "C" fn plus_step(chip: Chip, ram: &[u8]) -> PlusStepped
+    ensures { λ r. ⌜ StepReported chip (now (ram .entry)) r ⌝ }
+{
+    let stepped = chip::line::step(chip, ram);
+    let next = stepped.chip;
+    let report = stepped.report;
+    let entries = report.entries;
+    PlusStepped {
+        chip: next,
+        answer: stepped.answer,
+        cycles: report.cycles,
+        kinds: kinds_of(entries),
+        lows: lows_of(entries),
+    }
+}
+
+// The lines and cycles of the list at a start address, and where the list stands.
+#[no_mangle]
+pub extern "C" fn plus_forecast(ram: &[u8], start: u16, prescale: u8) -> PlusLength
+    ensures { λ r. ⌜ LengthTold (now (ram .entry)) start prescale r ⌝ }
+{
+    let told = forecast::forecast(ram, start, prescale);
+    if told.answer != DONE {
+        return PlusLength {
+            answer: told.answer,
+            lines: told.lines,
+            cycles: told.cycles,
+            offset: 0,
+            length: 0,
+        };
+    }
+    let list = forecast::list(ram, start);
+    PlusLength {
+        answer: told.answer,
+        lines: told.lines,
+        cycles: told.cycles,
+        offset: start as u32 / 2 * 2,
+        length: list.len() as u32,
+    }
+}
+
+// Draws the current line into 640 bytes.
+#[no_mangle]
+pub extern "C" fn plus_draw(chip: Chip, ram: &[u8], store: &[u8], line: &mut [u8]) -> u8
+    ensures { λ r. ⌜ Draws chip (now (ram .entry)) (now (store .entry)) (now (line .entry)) (now (line .exit)) r ⌝ }
+{
+    draw::draw(chip, ram, store, line)
+}

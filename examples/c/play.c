@@ -1,0 +1,55 @@
+/* Forecasts a sound list, then plays it on channel 0 up to its STOP and counts the same two numbers. */
+#include <stdio.h>
+#include <stdlib.h>
+#include <string.h>
+
+#include "plus.h"
+
+static const uint8_t unlock[] = {0x01, 0x00, 0xFF, 0x77, 0xB3, 0x51, 0xA8, 0xD4, 0x62,
+                                 0x39, 0x9C, 0x46, 0x2B, 0x15, 0x8A, 0xCD, 0xEE};
+/* LOAD 7 38h, PAUSE 2, STOP */
+static const uint8_t list[] = {0x38, 0x07, 0x02, 0x10, 0x20, 0x40};
+
+static uint8_t ram[PLUS_RAM], store[PLUS_STORE];
+
+/* Ends the program at a refusal. */
+static void served(const char *call, uint8_t answer) {
+    if (answer != PLUS_DONE) {
+        printf("%s: refused %u\n", call, answer);
+        exit(1);
+    }
+}
+
+static PlusChip poke(PlusChip chip, uint16_t address, uint8_t byte) {
+    PlusAnswered written = plus_page_write(chip, store, sizeof store, address, byte);
+    served("page write", written.answer);
+    return written.chip;
+}
+
+int main(void) {
+    memcpy(ram + 0x8000, list, sizeof list);
+    PlusLength told = plus_forecast(ram, sizeof ram, 0x8000, 0);
+    served("forecast", told.answer);
+    printf("forecast: lines %llu cycles %llu, %u bytes at %04Xh\n", (unsigned long long)told.lines,
+           (unsigned long long)told.cycles, told.length, told.offset);
+
+    PlusChip chip = plus_reset();
+    for (size_t i = 0; i < sizeof unlock; i++)
+        chip = plus_write_bc(chip, unlock[i]).chip;
+    chip = plus_write_7f(chip, 0xB8).chip; /* maps the page in */
+    chip = poke(chip, 0x6C00, 0x00);       /* start address low, high, prescale, enable */
+    chip = poke(chip, 0x6C01, 0x80);
+    chip = poke(chip, 0x6C02, 0);
+    chip = poke(chip, 0x6C0F, 0x01);
+
+    unsigned long lines = 0, cycles = 0;
+    while (chip.sound.channels[0].enabled) {
+        PlusStepped line = plus_step(chip, ram, sizeof ram);
+        served("step", line.answer);
+        chip = line.chip;
+        lines += 1;
+        cycles += line.cycles - 1; /* without the line's dead cycle */
+    }
+    printf("played: lines %lu cycles %lu\n", lines, cycles);
+    return 0;
+}

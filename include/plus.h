@@ -1,0 +1,183 @@
+/* The Plus chip core. Link libplus.a, which `rt staticlib plus` builds.
+ *
+ * The chip's state goes in by value and comes back in the answer; the library keeps nothing between calls. Every call has an
+ * answer number. With a refusal, that is any other than 0, the state and the buffers are as they were and every other number
+ * in the answer is 0. Any contents of the structs are served, but a bool must be 0 or 1.
+ *
+ * A buffer is a pointer, never NULL, and its length in bytes: PLUS_RAM for RAM, PLUS_STORE for the sprite pixel store. */
+#ifndef PLUS_H
+#define PLUS_H
+
+#include <stdbool.h>
+#include <stddef.h>
+#include <stdint.h>
+
+#ifdef __cplusplus
+extern "C" {
+#endif
+
+enum { PLUS_RAM = 65536, PLUS_STORE = 4096 };
+
+/* The numbers a call can answer. The lowest that applies is given. */
+enum {
+    PLUS_DONE = 0,          /* done */
+    PLUS_WRONG_LENGTH = 1,  /* a buffer has another length: page read and write, line step, drawing, forecast */
+    PLUS_NOT_MAPPED = 2,    /* address outside 4000h-7FFFh, or page not mapped: page read and write */
+    PLUS_NOTHING_THERE = 3, /* nothing there to write: page write, 6845 data write, gate array write */
+    PLUS_MODE_THREE = 4,    /* the screen mode is 3: drawing */
+    PLUS_NO_INTERRUPT = 5,  /* no interrupt is waiting: acknowledge */
+    PLUS_NO_STOP = 6        /* no STOP from the start address to FFFEh: forecast */
+};
+
+/* What a channel did on a line. */
+enum {
+    PLUS_SAT_OUT = 0,
+    PLUS_LOAD = 1,
+    PLUS_PAUSE = 2,
+    PLUS_REPEAT = 3,
+    PLUS_CONTROL = 4,
+    PLUS_NOTHING = 5 /* a word that does nothing */
+};
+
+/* The state. */
+
+typedef struct {
+    bool unlocked;
+    uint8_t stage; /* how much of the unlock sequence the last bytes are, 0 to 16 */
+} PlusLock;
+
+typedef struct {
+    uint8_t mode;
+    bool mapped;
+} PlusGate;
+
+typedef struct {
+    uint8_t r1, r4, r5, r6, r9, r12, r13;
+} PlusRegisters;
+
+typedef struct {
+    uint8_t vc, rc;
+    bool adjust;
+    uint16_t address; /* the current line's screen address */
+    bool held;        /* a captured split address waits in `split` */
+    uint16_t split;
+} PlusCounters;
+
+typedef struct {
+    uint8_t selected;
+    PlusRegisters registers;
+    PlusCounters counters;
+} PlusCrtc;
+
+typedef struct {
+    uint8_t pri, split_line, split_high, split_low, sscr;
+} PlusVideo;
+
+typedef struct {
+    int16_t x, y;
+    uint8_t magnification; /* bits 3-2 X, 1-0 Y */
+} PlusSprite;
+
+typedef struct {
+    bool enabled, interrupt;
+    uint16_t address;
+    uint8_t prescale;
+    uint16_t pause;
+    uint8_t count;    /* lines counted towards the next fall of the pause */
+    uint16_t counter; /* passes that LOOP has left */
+    uint16_t mark;    /* where LOOP goes back to */
+} PlusChannel;
+
+typedef struct {
+    PlusChannel channels[3];
+    uint8_t psg[16];
+} PlusSound;
+
+typedef struct {
+    bool raster;      /* a raster interrupt waits */
+    bool last_raster; /* the last acknowledge was raster */
+    uint8_t ivr;
+} PlusInterrupts;
+
+typedef struct {
+    PlusLock lock;
+    PlusGate gate;
+    PlusCrtc crtc;
+    PlusVideo video;
+    PlusSprite sprites[16];
+    uint8_t palette[64]; /* two bytes an entry, low then high */
+    PlusSound sound;
+    PlusInterrupts interrupts;
+} PlusChip;
+
+/* The answers. */
+
+typedef struct {
+    uint8_t answer;
+    PlusChip chip;
+} PlusAnswered;
+
+typedef struct {
+    uint8_t answer;
+    PlusChip chip;
+    uint8_t vector;
+} PlusAcknowledged;
+
+typedef struct {
+    uint8_t answer;
+    PlusChip chip;
+    uint8_t byte;
+} PlusByteRead;
+
+typedef struct {
+    PlusChip chip;
+    uint8_t answer;
+    uint8_t cycles;   /* of the whole line, its dead cycle with them */
+    uint8_t kinds[3]; /* for each channel PLUS_SAT_OUT to PLUS_NOTHING */
+    uint16_t lows[3]; /* the low 12 bits of its word, 0 if it sat out */
+} PlusStepped;
+
+typedef struct {
+    uint8_t answer;
+    uint64_t lines, cycles;  /* the channel's own cycles */
+    uint32_t offset, length; /* the list, its STOP with it: so many bytes of RAM from offset on */
+} PlusLength;
+
+/* The calls. */
+
+/* The chip after reset. */
+PlusChip plus_reset(void);
+
+/* A byte to port BCxx: selects a 6845 register and feeds the lock. Answers 0. */
+PlusAnswered plus_write_bc(PlusChip chip, uint8_t byte);
+
+/* A 6845 data write to the register selected last. Answers 0 or 3. */
+PlusAnswered plus_write_bd(PlusChip chip, uint8_t byte);
+
+/* A byte to port 7Fxx: maps the page, or sets the mode. Answers 0 or 3. */
+PlusAnswered plus_write_7f(PlusChip chip, uint8_t byte);
+
+/* Reads the register page; `bus` comes back where nothing can be read. Answers 0, 1 or 2. */
+PlusByteRead plus_page_read(PlusChip chip, const uint8_t *store, size_t store_length, uint16_t address, uint8_t bus);
+
+/* Writes the register page; a pixel goes into the store. Answers 0, 1, 2 or 3. */
+PlusAnswered plus_page_write(PlusChip chip, uint8_t *store, size_t store_length, uint16_t address, uint8_t byte);
+
+/* Serves the waiting interrupt that comes first and gives its vector. Answers 0 or 5. */
+PlusAcknowledged plus_acknowledge(PlusChip chip);
+
+/* One line: sound, raster compare, split compare, counters. Answers 0 or 1. */
+PlusStepped plus_step(PlusChip chip, const uint8_t *ram, size_t ram_length);
+
+/* Draws the current line: each of the line's 640 bytes becomes a palette entry. Answers 0, 1 or 4. */
+uint8_t plus_draw(PlusChip chip, const uint8_t *ram, size_t ram_length, const uint8_t *store, size_t store_length, uint8_t *line,
+                  size_t line_length);
+
+/* The length of the sound list at a start address, before it plays. Answers 0, 1 or 6. */
+PlusLength plus_forecast(const uint8_t *ram, size_t ram_length, uint16_t start, uint8_t prescale);
+
+#ifdef __cplusplus
+}
+#endif
+
+#endif
