@@ -1,0 +1,149 @@
+//! The comparison: one script run on the proved core and on another machine,
+//! with every answer, the whole state and every buffer compared after each call.
+
+mod machine;
+mod script;
+
+pub use machine::{Answer, Buffers, Machine};
+pub use script::{Call, Script};
+
+use crate::core::Chip;
+use crate::model::Model;
+use std::fmt;
+
+/// How often each call gave each answer number; `Call::NAMES` names the rows.
+#[derive(Clone, Debug, Default)]
+pub struct Tally {
+    pub scripts: u64,
+    pub calls: u64,
+    pub answers: [[u64; 7]; Call::NAMES.len()],
+}
+
+impl Tally {
+    fn add(&mut self, call: Call, answer: Answer) {
+        if let Some(row) = call.row() {
+            self.calls += 1;
+            self.answers[row][answer.number() as usize] += 1;
+        }
+    }
+}
+
+/// A script on which the two differ.
+#[derive(Debug)]
+pub struct Difference {
+    pub seed: u64,
+    /// The shortest prefix of the script that shows it.
+    pub prefix: Vec<Call>,
+    /// Those of its calls that are enough to show one.
+    pub enough: Vec<Call>,
+    pub how: String,
+}
+
+/// Runs the scripts from `seed` on until `count` calls are made, on the core
+/// and on what `make` gives for a state to start from.
+pub fn compare<M: Machine>(
+    count: u64,
+    seed: u64,
+    make: impl Fn(&Model) -> M,
+) -> Result<Tally, Box<Difference>> {
+    let mut tally = Tally::default();
+    while tally.calls < count {
+        let script = Script::new(seed.wrapping_add(tally.scripts));
+        tally.scripts += 1;
+        if let Some((at, _)) = run(&script, &script.calls, &make, &mut tally) {
+            return Err(Box::new(shown(&script, at, &make)));
+        }
+    }
+    Ok(tally)
+}
+
+/// The first call after which the two differ, and how.
+fn run<M: Machine>(
+    script: &Script,
+    calls: &[Call],
+    make: impl Fn(&Model) -> M,
+    tally: &mut Tally,
+) -> Option<(usize, String)> {
+    let (mut core, mut core_lent) = (Chip::from(&script.start), script.lent.clone());
+    let (mut other, mut other_lent) = (make(&script.start), script.lent.clone());
+    for (n, &call) in calls.iter().enumerate() {
+        let answer = core.call(call, &mut core_lent);
+        let expected = other.call(call, &mut other_lent);
+        tally.add(call, answer);
+        if answer != expected {
+            return Some((
+                n,
+                format!("core answers {answer:02X?}, not {expected:02X?}"),
+            ));
+        }
+        let state = other.state();
+        if core != state {
+            return Some((n, machine::parts_that_differ(&core, &state)));
+        }
+        if core_lent != other_lent {
+            return Some((n, core_lent.first_byte_that_differs(&other_lent)));
+        }
+    }
+    None
+}
+
+/// Runs the script again up to the call that showed a difference, and then
+/// without the calls that it doesn't take.
+fn shown<M: Machine>(script: &Script, at: usize, make: impl Fn(&Model) -> M) -> Difference {
+    let differs = |calls: &[Call]| run(script, calls, &make, &mut Tally::default());
+    let prefix = &script.calls[..=at];
+    let (_, how) = differs(prefix).expect("a script runs the same again");
+    assert!(differs(&script.calls[..at]).is_none());
+
+    let mut enough = prefix.to_vec();
+    let mut size = enough.len();
+    while size > 0 {
+        let mut from = 0;
+        while from < enough.len() {
+            let mut fewer = enough.clone();
+            fewer.drain(from..enough.len().min(from + size));
+            match differs(&fewer) {
+                Some((last, _)) => enough = fewer[..=last].to_vec(),
+                None => from += size,
+            }
+        }
+        size /= 2;
+    }
+    Difference {
+        seed: script.seed,
+        prefix: prefix.to_vec(),
+        enough,
+        how,
+    }
+}
+
+impl fmt::Display for Difference {
+    fn fmt(&self, f: &mut fmt::Formatter) -> fmt::Result {
+        writeln!(f, "seed {}: {}", self.seed, self.how)?;
+        writeln!(f, "the shortest prefix has {} calls:", self.prefix.len())?;
+        for call in &self.prefix {
+            writeln!(f, "  {call:02X?}")?;
+        }
+        writeln!(f, "of these, {} are enough to differ:", self.enough.len())?;
+        for call in &self.enough {
+            writeln!(f, "  {call:02X?}")?;
+        }
+        Ok(())
+    }
+}
+
+impl fmt::Display for Tally {
+    fn fmt(&self, f: &mut fmt::Formatter) -> fmt::Result {
+        writeln!(f, "{} calls in {} scripts", self.calls, self.scripts)?;
+        for (name, answers) in Call::NAMES.iter().zip(&self.answers) {
+            write!(f, "{name:12}")?;
+            for (number, times) in answers.iter().enumerate() {
+                if *times != 0 {
+                    write!(f, "  {number}: {times}")?;
+                }
+            }
+            writeln!(f)?;
+        }
+        Ok(())
+    }
+}

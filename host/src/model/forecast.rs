@@ -1,0 +1,77 @@
+//! The length of a sound list, by the rule and without playing it.
+
+use super::sound::{kind_of, word_at, LOOP, STOP};
+use super::{answer, Kind, RAM};
+
+/// The control bits of a word, 0 if it isn't a control word.
+fn control(word: u16) -> u16 {
+    match kind_of(word) {
+        Kind::Control => word & 0x0FFF,
+        _ => 0,
+    }
+}
+
+/// The address of the first STOP from `start` on, or why there is none.
+fn find_stop(ram: &[u8], start: u16) -> Result<u16, u8> {
+    if ram.len() != RAM {
+        return Err(answer::WRONG_LENGTH);
+    }
+    (start & 0xFFFE..=0xFFFE)
+        .step_by(2)
+        .find(|&address| control(word_at(ram, address)) & STOP != 0)
+        .ok_or(answer::NO_STOP)
+}
+
+/// The list's bytes, its STOP included; nothing if the forecast is refused.
+pub fn list(ram: &[u8], start: u16) -> &[u8] {
+    match find_stop(ram, start) {
+        Ok(stop) => &ram[(start & 0xFFFE) as usize..stop as usize + 2],
+        Err(_) => &[],
+    }
+}
+
+/// The answer, the lines and the channel's own cycles.
+pub fn forecast(ram: &[u8], start: u16, prescale: u8) -> (u8, u64, u64) {
+    if let Err(refusal) = find_stop(ram, start) {
+        return (refusal, 0, 0);
+    }
+    let words: Vec<u16> = list(ram, start)
+        .chunks_exact(2)
+        .map(|bytes| u16::from_le_bytes([bytes[0], bytes[1]]))
+        .collect();
+
+    let (mut lines, mut cycles) = (0, 0);
+    for (&word, passes) in words.iter().zip(passes(&words)) {
+        let (word_lines, word_cycles) = one_pass(word, prescale);
+        lines += passes * word_lines;
+        cycles += passes * word_cycles;
+    }
+    (answer::DONE, lines, cycles)
+}
+
+/// Lines and cycles of one word, one time through.
+fn one_pass(word: u16, prescale: u8) -> (u64, u64) {
+    let low = word as u64 & 0x0FFF;
+    match kind_of(word) {
+        Kind::Load => (1, 9),
+        Kind::Pause if low != 0 => (low * (prescale as u64 + 1), 2),
+        _ => (1, 2),
+    }
+}
+
+/// How often each word of a list is passed. The last word is the STOP.
+fn passes(words: &[u16]) -> Vec<u64> {
+    let mut passes = vec![1; words.len()];
+    // The latest REPEAT with no LOOP since: the first word after it, and K.
+    let mut open: Option<(usize, u64)> = None;
+    for (n, &word) in words[..words.len() - 1].iter().enumerate() {
+        if kind_of(word) == Kind::Repeat {
+            open = Some((n + 1, word as u64 & 0x0FFF));
+        } else if control(word) & LOOP != 0 {
+            if let Some((first, k)) = open.take() {
+                passes[first..=n].fill(k + 1);
+            }
+        }
+    }
+    passes
+}

@@ -1,0 +1,104 @@
+//! The three sound channels on one line.
+
+use super::{Channel, Did, Kind, Report, Sound};
+
+/// The word at an address, low byte first. RAM has its full length here.
+pub(super) fn word_at(ram: &[u8], address: u16) -> u16 {
+    let low = ram[address as usize];
+    let high = ram[address.wrapping_add(1) as usize];
+    u16::from_le_bytes([low, high])
+}
+
+/// The kind of a word, by its top four bits.
+pub(super) fn kind_of(word: u16) -> Kind {
+    match word >> 12 {
+        0 => Kind::Load,
+        1 => Kind::Pause,
+        2 => Kind::Repeat,
+        4 => Kind::Control,
+        _ => Kind::Nothing,
+    }
+}
+
+pub(super) const LOOP: u16 = 0x001;
+pub(super) const INT: u16 = 0x010;
+pub(super) const STOP: u16 = 0x020;
+
+impl Channel {
+    /// Counts one line of a running pause.
+    fn count_line(&mut self) {
+        if !self.enabled || self.pause == 0 {
+            return;
+        }
+        if self.count >= self.prescale {
+            self.count = 0;
+            self.pause -= 1;
+        } else {
+            self.count += 1;
+        }
+    }
+
+    /// The next word if the channel is active.
+    fn fetch(&mut self, ram: &[u8]) -> Option<u16> {
+        if !self.enabled || self.pause != 0 {
+            return None;
+        }
+        let word = word_at(ram, self.address);
+        self.address = self.address.wrapping_add(2);
+        Some(word)
+    }
+
+    fn execute(&mut self, psg: &mut [u8; 16], word: u16) -> Did {
+        let kind = kind_of(word);
+        let low = word & 0x0FFF;
+        match kind {
+            Kind::Load => psg[(low >> 8) as usize] = low as u8,
+            Kind::Pause if low == 0 => {}
+            Kind::Pause => {
+                self.pause = low;
+                self.count = 0;
+            }
+            Kind::Repeat => {
+                self.counter = low;
+                self.mark = self.address;
+            }
+            Kind::Control => {
+                if low & LOOP != 0 && self.counter != 0 {
+                    self.counter -= 1;
+                    self.address = self.mark;
+                }
+                if low & INT != 0 {
+                    self.interrupt = true;
+                }
+                if low & STOP != 0 {
+                    self.enabled = false;
+                }
+            }
+            Kind::Nothing => {}
+        }
+        Did::Executed(kind, low)
+    }
+}
+
+impl Sound {
+    /// All count, all active fetch, then they execute in order.
+    pub(super) fn line(&mut self, ram: &[u8]) -> Report {
+        let mut report = Report {
+            cycles: 1,
+            did: [Did::SatOut; 3],
+        };
+        let mut words = [None; 3];
+        for (channel, word) in self.channels.iter_mut().zip(&mut words) {
+            channel.count_line();
+            *word = channel.fetch(ram);
+        }
+        for (n, word) in words.into_iter().enumerate() {
+            if let Some(word) = word {
+                let did = self.channels[n].execute(&mut self.psg, word);
+                report.cycles += 1 + if kind_of(word) == Kind::Load { 8 } else { 1 };
+                report.did[n] = did;
+            }
+        }
+        report
+    }
+}
