@@ -1,5 +1,5 @@
 -- `overlay::row_of`: a magnification that is off, no row, or the row that the line cuts.
-use mathlib.Core.Path.{_≡_, refl, sym, _∙_}
+use mathlib.Core.Path.{sym, _∙_}
 use Rattle.picture.proofs.Signed.{again}
 use Rattle.layers.proofs.Rows.{none-down, none-across, no-row, its-row}
 use borrow.Author.Needs.{needs}

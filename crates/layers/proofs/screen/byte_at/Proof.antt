@@ -7,7 +7,8 @@ use Rattle.layers.proofs.screen.byte_at.Statement.{statement}
 use Rattle.layers.proofs.screen.byte_at.Tie as tie
 
 returns : tie.Need-returns
-returns c = sym (List·getD-eq-default (now (c .before .args .ram)) 0 (c .if1 .taken))
+returns c =
+    sym (List·getD-eq-default (now (c .before .args .ram)) 0 {n = c .before .args .at} (search needs))
 
 shared-slice-read-result : tie.Need-shared-slice-read-result
 shared-slice-read-result c = search needs

@@ -1,0 +1,177 @@
+// Plays calls of the chip from standard input and prints a line for each. The input is RAM, the pixel store, then records of
+// four bytes: a letter, the address low and high, a value.
+mod calls;
+mod lines;
+mod paint;
+mod text;
+
+use crate::calls::Machine;
+use crate::calls::Record;
+use libc::STDIN_FILENO;
+use libc::STDOUT_FILENO;
+ghost use mathlib.Core.Path.{_≡_};
+ghost use Prim.Native.Nat.{_+_, _/_, _≤_};
+ghost use lib.ListN.{length};
+ghost use Rattle.plus_run.specs.Blocks.{Takes, Ready, Roomy, stateOf, after, played};
+
+// More than the longest line of output.
+const LONGEST: usize = 1024;
+
+// A machine, and whether more input may come.
+struct Progress {
+    machine: Machine,
+    more: bool,
+}
+
+// Writes out what waits.
+fn flush(out: &[u8], at: usize)
+    requires { ⌜ at ≤ length (now out) ⌝ }
+{
+    io::write_all(STDOUT_FILENO, &out[..at]);
+}
+
+// A machine with room for a line.
+fn with_room(m: Machine, out: &[u8]) -> Machine
+    requires { ⌜ (m .at ≤ length (now out)) × (1024 ≤ length (now out)) ⌝ }
+    ensures { λ r. ⌜ Roomy m (now (out .entry)) r ⌝ }
+{
+    let at = m.at;
+    if at <= out.len() - LONGEST {
+        return m;
+    }
+    flush(out, at);
+    let chip = m.chip;
+    Machine { chip, at: 0 }
+}
+
+// The record at a place of a block.
+fn record_at(block: &[u8], i: usize) -> Record
+    requires { ⌜ i + 4 ≤ length (now block) ⌝ }
+    ensures { λ r. ⌜ Takes (now (block .entry)) i r ⌝ }
+{
+    Record {
+        op: block[i],
+        address: block[i + 2] as u16 * 256 + block[i + 1] as u16,
+        value: block[i + 3],
+    }
+}
+
+// One record of a block.
+fn turn(
+    m: Machine,
+    ram: &mut [u8],
+    store: &mut [u8],
+    out: &mut [u8],
+    block: &[u8],
+    i: usize,
+) -> Machine
+    requires { ⌜ (Ready m (now ram) (now out)) × (i + 4 ≤ length (now block)) ⌝ }
+    ensures { λ r. ⌜ Ready r (now (ram .exit)) (now (out .exit)) ⌝ }
+    ensures { λ r. ⌜ stateOf r (now (ram .exit)) (now (store .exit)) ≡ after (stateOf m (now (ram .entry)) (now (store .entry))) (now (block .entry)) i ⌝ }
+{
+    let ready = with_room(m, out);
+    calls::serve(ready, ram, store, out, record_at(block, i))
+}
+
+// Every whole record of a block.
+fn records(m: Machine, ram: &mut [u8], store: &mut [u8], out: &mut [u8], block: &[u8]) -> Machine
+    requires { ⌜ Ready m (now ram) (now out) ⌝ }
+    ensures { λ r. ⌜ Ready r (now (ram .exit)) (now (out .exit)) ⌝ }
+    ensures { λ r. ⌜ stateOf r (now (ram .exit)) (now (store .exit)) ≡ played (stateOf m (now (ram .entry)) (now (store .entry))) (now (block .entry)) (length (now (block .entry)) / 4) ⌝ }
+{
+    let whole = block.len() / 4;
+    let mut machine = m;
+    let mut k = 0;
+    while k < whole {
+        machine = turn(machine, ram, store, out, block, k * 4);
+        k += 1;
+    }
+    machine
+}
+
+// The end of the input: a part of a record makes the line `short`.
+fn last(m: Machine, out: &mut [u8], bytes: usize) -> Machine
+    requires { ⌜ (m .at ≤ length (now out)) × (1024 ≤ length (now out)) ⌝ }
+    ensures { λ r. ⌜ r .at ≤ length (now (out .exit)) ⌝ }
+{
+    if bytes % 4 == 0 {
+        return m;
+    }
+    let ready = with_room(m, out);
+    let chip = ready.chip;
+    let next = lines::short(out, ready.at);
+    Machine { chip, at: next }
+}
+
+// One block of input. A block is filled, so that no record lies across two of them, and one that isn't full is the last.
+fn block_played(
+    m: Machine,
+    ram: &mut [u8],
+    store: &mut [u8],
+    out: &mut [u8],
+    block: &mut [u8],
+) -> Progress
+    requires { ⌜ Ready m (now ram) (now out) ⌝ }
+    ensures { λ r. ⌜ Ready (r .machine) (now (ram .exit)) (now (out .exit)) ⌝ }
+{
+    let n = io::read_full(STDIN_FILENO, block);
+    let played = records(m, ram, store, out, &block[..n]);
+    if n == block.len() {
+        return Progress {
+            machine: played,
+            more: true,
+        };
+    }
+    let ended = last(played, out, n);
+    Progress {
+        machine: ended,
+        more: false,
+    }
+}
+
+// Every block. A proved loop has to end, so the turns are counted down from a number that no input uses up.
+fn blocks(m: Machine, ram: &mut [u8], store: &mut [u8], out: &mut [u8], block: &mut [u8]) -> Machine
+    requires { ⌜ Ready m (now ram) (now out) ⌝ }
+    ensures { λ r. ⌜ Ready r (now (ram .exit)) (now (out .exit)) ⌝ }
+{
+    let mut progress = Progress {
+        machine: m,
+        more: true,
+    };
+    let mut turns: u64 = 0x100000000;
+    while turns > 0 && progress.more {
+        progress = block_played(progress.machine, ram, store, out, block);
+        turns -= 1;
+    }
+    progress.machine
+}
+
+// All records, from the chip after reset.
+fn play(ram: &mut [u8], store: &mut [u8])
+    requires { ⌜ length (now ram) ≡ 65536 ⌝ }
+{
+    let mut out = io::large_buffer();
+    let mut block = io::large_buffer();
+    let first = Machine {
+        chip: chip::start::reset(),
+        at: 0,
+    };
+    let end = blocks(first, ram, store, &mut out, &mut block);
+    flush(&out, end.at);
+}
+
+fn main() {
+    let mut ram = io::large_buffer();
+    let mut store = io::buffer();
+    let ram_bytes = io::read_full(STDIN_FILENO, &mut ram);
+    if ram_bytes != 65536 {
+        io::write_all(STDOUT_FILENO, b"short\n");
+        return;
+    }
+    let store_bytes = io::read_full(STDIN_FILENO, &mut store);
+    if store_bytes != 4096 {
+        io::write_all(STDOUT_FILENO, b"short\n");
+        return;
+    }
+    play(&mut ram, &mut store);
+}

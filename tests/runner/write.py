@@ -1,0 +1,130 @@
+"""Writes the pairs beside this file, and the stored run of the crate plus_run.
+
+The lines of the stored run stand here by hand, from docs/01-scope.md; the model has to agree with them.
+`write.py drawing` writes it for a program that draws."""
+import os
+import random
+import sys
+
+import model
+
+HERE = os.path.dirname(os.path.abspath(__file__))
+CRATE = os.path.join(HERE, '..', '..', 'crates', 'plus_run')
+DRAWING = sys.argv[1:] == ['drawing']
+STORE = bytes(4096)
+UNLOCK = [0xFF, 0x00] + model.KEY + [0xCD, 0x01]
+
+
+def ram_of(lists):
+    ram = bytearray(65536)
+    for start, words in lists.items():
+        for i, word in enumerate(words):
+            ram[start + 2 * i] = word & 255
+            ram[start + 2 * i + 1] = word >> 8
+    return bytes(ram)
+
+
+def rec(op, a=0, value=0):
+    return bytes([ord(op), a & 255, a >> 8, value])
+
+
+def drawn(text):
+    return text if DRAWING else 'bad'
+
+
+LISTS = {0x8000: [0x0738, 0x1002, 0x4020], 0x9000: [0x2005, 0x4031], 0xA002: [0x3123]}
+# the record and the line that answers it
+STORED = [
+    # the forecast, and the page before it is mapped
+    (rec('F', 0x8000, 0), '0 4 13 6'), (rec('F', 0x8001, 2), '0 8 13 6'),
+    (rec('F', 0x9000, 0), '0 2 4 4'), (rec('F', 0x9004, 0), '6 0 0 0'),
+    (rec('R', 0x6000, 0x12), '2 0'), (rec('W', 0x6000, 1), '2'),
+    (rec('G', 0, 0xB8), '0'), (rec('R', 0x6000, 0x12), '2 0'),
+    (rec('G', 0, 0x40), '3'), (rec('D', 0, 1), '3'), (rec('A'), '5 0'),
+    # unlocked and mapped
+] + [(rec('B', 0, byte), '0') for byte in UNLOCK] + [
+    (rec('D', 0, 40), '0'), (rec('G', 0, 0xB8), '0'),
+    (rec('R', 0x6000, 0x12), '0 0'), (rec('R', 0x6004, 0x12), '0 18'),
+    (rec('W', 0x6001, 0x03), '0'), (rec('R', 0x6001, 0), '0 255'), (rec('W', 0x6005, 1), '3'),
+    (rec('W', 0x4000, 0xF5), '0'), (rec('R', 0x4000, 0), '0 5'), (rec('R', 0x3FFF, 9), '2 0'),
+    # the list at 8000h on channel 0
+    (rec('W', 0x6C00, 0x01), '0'), (rec('W', 0x6C01, 0x80), '0'), (rec('W', 0x6C0F, 1), '0'),
+    (rec('R', 0x6C00, 0), '0 1'),
+    (rec('L'), '0 10 load 1848 - -'), (rec('L'), '0 3 pause 2 - -'), (rec('L'), '0 1 - - -'),
+    (rec('L'), '0 3 control 32 - -'), (rec('L'), '0 1 - - -'), (rec('R', 0x6C0F, 0), '0 0'),
+    # the list at 9000h, and its interrupt
+    (rec('W', 0x6C00, 0x00), '0'), (rec('W', 0x6C01, 0x90), '0'), (rec('W', 0x6C0F, 1), '0'),
+    (rec('L'), '0 3 repeat 5 - -'), (rec('L'), '0 3 control 49 - -'), (rec('R', 0x6C0F, 0), '0 64'),
+    (rec('W', 0x6805, 0xA8), '0'), (rec('A'), '0 172'), (rec('A'), '5 0'),
+    # a raster interrupt on the line with RC 1
+    (rec('B', 0, 9), '0'), (rec('D', 0, 7), '0'), (rec('W', 0x6800, 1), '0'),
+    (rec('L'), '0 1 - - -'), (rec('A'), '5 0'), (rec('L'), '0 1 - - -'),
+    (rec('A'), '0 174'), (rec('R', 0x6C0F, 0), '0 128'),
+    # RAM changed, and two channels on a line
+    (rec('M', 0x8000, 0x39), '0'), (rec('W', 0x6C05, 0x80), '0'), (rec('W', 0x6C0F, 2), '0'),
+    (rec('L'), '0 10 - load 1849 -'),
+    (rec('W', 0x6C09, 0x80), '0'), (rec('W', 0x6C0F, 6), '0'),
+    (rec('L'), '0 12 - pause 2 load 1849'),
+    (rec('W', 0x6C09, 0xA0), '0'), (rec('L'), '0 3 - - nothing 291'),
+    # drawn: VC 0 is not below R6; then 40 characters in mode 1, line 5 of the row; then mode 3
+    (rec('P'), drawn('0 ' + 'g' * 640)),
+    (rec('B', 0, 6), '0'), (rec('D', 0, 25), '0'), (rec('G', 0, 0x81), '0'),
+    (rec('M', 0x2800, 0x80), '0'), (rec('M', 0x2801, 0x0F), '0'), (rec('M', 0x284F, 0x11), '0'),
+    (rec('P'), drawn('0 11' + '0' * 6 + '2' * 8 + '0' * (640 - 18) + '33')),
+    (rec('G', 0, 0x83), '0'), (rec('P'), drawn('4')),
+    # no call, and reset
+    (rec('x', 0x1234, 5), 'bad'), (rec('b', 0, 9), 'bad'), (rec('\0'), 'bad'),
+    (rec('Z'), '0'), (rec('R', 0x4000, 0x12), '2 0'), (rec('L'), '0 1 - - -'),
+    (b'L\0\0', 'short'),
+]
+
+
+def stored():
+    ram = ram_of(LISTS)
+    records = b''.join(r for r, _ in STORED)
+    text = ''.join(line + '\n' for _, line in STORED)
+    assert text == model.play(ram, STORE, records, DRAWING), 'the model says otherwise'
+    with open(os.path.join(CRATE, 'stdin'), 'wb') as f:
+        f.write(ram + STORE + records)
+    with open(os.path.join(CRATE, 'stdout'), 'w') as f:
+        f.write(text)
+
+
+def mixed(seed, count):
+    """RAM, store and records of all calls but drawing, over RAM full of words with many a STOP."""
+    r = random.Random(seed)
+    words = [r.choice([r.randrange(4096), 0x1000 + r.randrange(4), 0x2000 + r.randrange(4), 0x4001, 0x3000, 0x4010,
+                       0x5000 + r.randrange(4096), r.choice([0x4001, 0x4020, 0x4030, 0x4031])]) for _ in range(32768)]
+    records = b''.join(rec('B', 0, byte) for byte in UNLOCK) + rec('G', 0, 0xB8)
+    while len(records) < 4 * count:
+        op = r.choice('BDGWWWRRALLLLLLFM')
+        a, value = r.randrange(65536), r.randrange(256)
+        if op == 'B':
+            value = r.choice([1, 4, 5, 6, 9, 12, 13, value])
+        elif op == 'D':
+            value = r.choice([0, 2, 7, value])
+        elif op == 'G':
+            value = r.choice([0xB8, 0xB8, 0x80, 0x91, value])
+        elif op in 'WR':
+            a = r.choice([0x4000 + r.randrange(4096), 0x6000 + r.randrange(128), 0x6400 + r.randrange(66),
+                          0x6800 + r.randrange(16), 0x6C00 + r.randrange(16), 0x6C0F, a])
+        if r.randrange(100) == 0:
+            n = r.randrange(3)
+            records += rec('W', 0x6C02 + 4 * n, r.randrange(3)) + rec('W', 0x6C0F, 7) + rec('W', 0x6800, r.randrange(8))
+        if r.randrange(2000) == 0:
+            records += rec('Z') + b''.join(rec('B', 0, byte) for byte in UNLOCK) + rec('G', 0, 0xB8)
+        records += rec(op, a, value)
+    return ram_of({0: words}), records[:4 * count]
+
+
+def pair(name, ram, records):
+    with open(os.path.join(HERE, name + '.in'), 'wb') as f:
+        f.write(ram + STORE + records)
+    with open(os.path.join(HERE, name + '.out'), 'w') as f:
+        f.write(model.play(ram, STORE, records, DRAWING))
+
+
+stored()
+pair('bad', ram_of(LISTS), rec('a') + rec('M', 0x8000, 0x77) + rec('?', 0x8000, 1) + rec('F', 0x8000, 0) + b'\xff\0\x80\0')
+# a block of input has 16,384 records
+pair('mixed', *mixed(1, 20000))
