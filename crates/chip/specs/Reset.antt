@@ -6,29 +6,43 @@ use lib.IntN.{pos}
 use lib.ListN.{replicate}
 use Rattle.lock.specs.Machine.{resetLock, Tracks}
 use Rattle.sound.specs.Line.{offChannel}
+use Rattle.sound.specs.declared.Sound.{Sound}
+use Rattle.crtc.specs.declared.Video.{Video}
 use Rattle.picture.specs.declared.sprite.Sprite.{Sprite}
+use Rattle.chip.specs.declared.Crtc.{Crtc}
 use Rattle.chip.specs.declared.Chip.{Chip}
 
 -- a sprite that is off, at 0, 0
 abbrev pub offSprite : Sprite
 offSprite = record { x = pos 0; y = pos 0; magnification = 0 }
 
--- locked, page not mapped, all registers, counters and PSG registers 0, all sprites and channels off, IVR 01h
+-- all registers and counters 0; the first line has screen address 0
+abbrev pub resetCrtc : Crtc
+resetCrtc =
+    record {
+      selected = 0;
+      registers = record { r1 = 0; r4 = 0; r5 = 0; r6 = 0; r9 = 0; r12 = 0; r13 = 0 };
+      counters = record { vc = 0; rc = 0; adjust = false; address = 0; held = false; split = 0 };
+    }
+
+abbrev pub resetVideo : Video
+resetVideo = record { pri = 0; «split_line» = 0; «split_high» = 0; «split_low» = 0; sscr = 0 }
+
+-- all channels off, all PSG registers 0
+abbrev pub resetSound : Sound
+resetSound = record { channels = replicate 3 offChannel; psg = replicate 16 0 }
+
+-- locked, page not mapped, all sprites off, the palette 0, no interrupt waiting, IVR 01h
 unfoldable pub resetChip : Chip
 resetChip =
     record {
       lock = resetLock;
       gate = record { mode = 0; mapped = false };
-      crtc =
-          record {
-            selected = 0;
-            registers = record { r1 = 0; r4 = 0; r5 = 0; r6 = 0; r9 = 0; r12 = 0; r13 = 0 };
-            counters = record { vc = 0; rc = 0; adjust = false; address = 0; held = false; split = 0 };
-          };
-      video = record { pri = 0; «split_line» = 0; «split_high» = 0; «split_low» = 0; sscr = 0 };
+      crtc = resetCrtc;
+      video = resetVideo;
       sprites = replicate 16 offSprite;
       palette = replicate 64 0;
-      sound = record { channels = replicate 3 offChannel; psg = replicate 16 0 };
+      sound = resetSound;
       interrupts = record { raster = false; «last_raster» = false; ivr = 1 };
     }
 

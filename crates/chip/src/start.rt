@@ -10,13 +10,13 @@ use lock::Lock;
 use picture::sprite::Sprite;
 use sound::Channel;
 use sound::Sound;
-ghost use Rattle.chip.specs.Reset.{Reset};
+ghost use mathlib.Core.Path.{_≡_};
+ghost use Rattle.chip.specs.Reset.{resetCrtc, resetVideo, resetSound, Reset};
 
-// The chip after reset.
-pub fn reset() -> Chip
-    ensures { λ r. ⌜ Reset r ⌝ }
+// The 6845 with all registers and counters 0.
+fn reset_crtc() -> Crtc
+    ensures { λ r. ⌜ r ≡ resetCrtc ⌝ }
 {
-    let lock = Lock::new();
     let registers = Registers {
         r1: 0,
         r4: 0,
@@ -34,6 +34,30 @@ pub fn reset() -> Chip
         held: false,
         split: 0,
     };
+    Crtc {
+        selected: 0,
+        registers,
+        counters,
+    }
+}
+
+// PRI, split and SSCR 0.
+fn reset_video() -> Video
+    ensures { λ r. ⌜ r ≡ resetVideo ⌝ }
+{
+    Video {
+        pri: 0,
+        split_line: 0,
+        split_high: 0,
+        split_low: 0,
+        sscr: 0,
+    }
+}
+
+// All channels off and the PSG 0.
+fn reset_sound() -> Sound
+    ensures { λ r. ⌜ r ≡ resetSound ⌝ }
+{
     let channel = Channel {
         enabled: false,
         interrupt: false,
@@ -44,13 +68,24 @@ pub fn reset() -> Chip
         counter: 0,
         mark: 0,
     };
+    let channels = [channel; 3];
+    let psg = [0u8; 16];
+    Sound { channels, psg }
+}
+
+// The chip after reset.
+pub fn reset() -> Chip
+    ensures { λ r. ⌜ Reset r ⌝ }
+{
+    let lock = Lock::new();
+    let crtc = reset_crtc();
+    let video = reset_video();
+    let sound = reset_sound();
     let sprite = Sprite {
         x: 0,
         y: 0,
         magnification: 0,
     };
-    let channels = [channel; 3];
-    let psg = [0u8; 16];
     let sprites = [sprite; 16];
     let palette = [0u8; 64];
     Chip {
@@ -59,21 +94,11 @@ pub fn reset() -> Chip
             mode: 0,
             mapped: false,
         },
-        crtc: Crtc {
-            selected: 0,
-            registers,
-            counters,
-        },
-        video: Video {
-            pri: 0,
-            split_line: 0,
-            split_high: 0,
-            split_low: 0,
-            sscr: 0,
-        },
+        crtc,
+        video,
         sprites,
         palette,
-        sound: Sound { channels, psg },
+        sound,
         interrupts: Interrupts {
             raster: false,
             last_raster: false,
