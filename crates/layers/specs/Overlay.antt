@@ -55,7 +55,7 @@ pub record Row (s : Sprite) (n y : ℕ) (r : LineSprite) : Type 0 where
 abbrev pub keptOf : LineSprite → ℕ
 keptOf e = if (eqb (e .span) 0) 0 1
 
--- at every x the sprites on a line show what the sixteen have there
+-- at every x the sprites on a line show what the sixteen have there; which of them have a place in the list is left open
 pub record Overlay (sprites : List Sprite) (y : ℕ) (r : LineSprites) : Type 0 where
   pub bound : r .count ≤ 16
   pub first : (store : List ℕ) (x : ℕ) → firstOn store (r .list) x (r .count) ≡ firstPixel store sprites y x 16

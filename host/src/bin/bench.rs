@@ -6,7 +6,7 @@ use host::model::{self, Model};
 use std::hint::black_box;
 use std::time::Instant;
 
-const CASES: [&str; 9] = [
+const CASES: [&str; 10] = [
     "line step",
     "page write",
     "page read",
@@ -16,6 +16,7 @@ const CASES: [&str; 9] = [
     "frame of 312 lines, no sprite",
     "frame of 312 lines, 16 sprites",
     "forecast, 32,767 words",
+    "draw, 16 transparent sprites",
 ];
 
 const KEY: [u8; 17] = [
@@ -98,7 +99,7 @@ fn model_chip(sprites: u16) -> Model {
 fn sprites_of(case: usize) -> u16 {
     match case {
         4 => 4,
-        5 | 7 => 16,
+        5 | 7 | 9 => 16,
         _ => 0,
     }
 }
@@ -106,12 +107,15 @@ fn sprites_of(case: usize) -> u16 {
 fn run_core(case: usize, count: usize) {
     let mut chip = core_chip(sprites_of(case));
     let Lent { ram, mut store, mut line } = lent();
+    if case == 9 {
+        store.fill(0);
+    }
     for i in 0..count {
         match case {
             0 => drop(black_box(chip.step(&ram))),
             1 => drop(black_box(chip.page_write(&mut store, 0x6400 + i as u16 % 64, i as u8))),
             2 => drop(black_box(chip.page_read(&store, 0x6400 + i as u16 % 64, 0))),
-            3..=5 => drop(black_box(chip.draw(&ram, &store, &mut line))),
+            3..=5 | 9 => drop(black_box(chip.draw(&ram, &store, &mut line))),
             6 | 7 => {
                 for _ in 0..312 {
                     black_box(chip.draw(&ram, &store, &mut line));
@@ -127,12 +131,15 @@ fn run_core(case: usize, count: usize) {
 fn run_model(case: usize, count: usize) {
     let mut model = model_chip(sprites_of(case));
     let Lent { ram, mut store, mut line } = lent();
+    if case == 9 {
+        store.fill(0);
+    }
     for i in 0..count {
         match case {
             0 => drop(black_box(model.step(&ram))),
             1 => drop(black_box(model.page_write(&mut store, 0x6400 + i as u16 % 64, i as u8))),
             2 => drop(black_box(model.page_read(&store, 0x6400 + i as u16 % 64, 0))),
-            3..=5 => drop(black_box(model.draw(&ram, &store, &mut line))),
+            3..=5 | 9 => drop(black_box(model.draw(&ram, &store, &mut line))),
             6 | 7 => {
                 for _ in 0..312 {
                     black_box(model.draw(&ram, &store, &mut line));
@@ -166,7 +173,7 @@ fn main() {
     }
     println!("| case | core, ns | model, ns | ratio |\n|---|---|---|---|");
     for (case, name) in CASES.iter().enumerate() {
-        let count = [100_000, 100_000, 100_000, 2_000, 2_000, 2_000, 10, 10, 20][case];
+        let count = [100_000, 100_000, 100_000, 2_000, 2_000, 2_000, 10, 10, 20, 2_000][case];
         let core = nanoseconds(run_core, case, count);
         let model = nanoseconds(run_model, case, count);
         println!("| {name} | {core:.0} | {model:.0} | {:.2} |", core / model);
