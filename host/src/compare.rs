@@ -7,7 +7,7 @@ mod script;
 pub use machine::{Answer, Buffers, Machine};
 pub use script::{Call, Script};
 
-use crate::core::Chip;
+use crate::core::{Chip, State};
 use crate::model::Model;
 use std::fmt;
 
@@ -64,7 +64,7 @@ fn run<M: Machine>(
     make: impl Fn(&Model) -> M,
     tally: &mut Tally,
 ) -> Option<(usize, String)> {
-    let (mut core, mut core_lent) = (Chip::from(&script.start), script.lent.clone());
+    let (mut core, mut core_lent) = (Chip::from(State::from(&script.start)), script.lent.clone());
     let (mut other, mut other_lent) = (make(&script.start), script.lent.clone());
     for (n, &call) in calls.iter().enumerate() {
         let answer = core.call(call, &mut core_lent);
@@ -77,7 +77,7 @@ fn run<M: Machine>(
             ));
         }
         let state = other.state();
-        if core != state {
+        if *core != state {
             return Some((n, machine::parts_that_differ(&core, &state)));
         }
         if core_lent != other_lent {

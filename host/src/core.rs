@@ -2,6 +2,8 @@
 //!
 //! Each call takes the chip as `&mut`, and leaves it as the answer has it.
 
+use std::ops::{Deref, DerefMut};
+
 /// The lock: how much of the sequence the last bytes are is `stage`, 0 to 16.
 #[repr(C)]
 #[derive(Clone, Copy, Debug, PartialEq, Eq)]
@@ -97,7 +99,7 @@ pub struct Interrupts {
 /// The whole state.
 #[repr(C)]
 #[derive(Clone, Copy, Debug, PartialEq, Eq)]
-pub struct Chip {
+pub struct State {
     pub lock: Lock,
     pub gate: Gate,
     pub crtc: Crtc,
@@ -106,6 +108,14 @@ pub struct Chip {
     pub palette: [u8; 64],
     pub sound: Sound,
     pub interrupts: Interrupts,
+}
+
+/// A chip: its state, at a whole word, so that it is copied by words where the
+/// C convention passes it on the stack.
+#[repr(C, align(8))]
+#[derive(Clone, Copy, Debug, PartialEq, Eq)]
+pub struct Chip {
+    state: State,
 }
 
 /// What a line reports: its cycles, and for each channel the number of what it
@@ -132,26 +142,26 @@ pub struct Length {
 #[repr(C)]
 struct Answered {
     answer: u8,
-    chip: Chip,
+    chip: State,
 }
 
 #[repr(C)]
 struct Acknowledged {
     answer: u8,
-    chip: Chip,
+    chip: State,
     vector: u8,
 }
 
 #[repr(C)]
 struct ByteRead {
     answer: u8,
-    chip: Chip,
+    chip: State,
     byte: u8,
 }
 
 #[repr(C)]
 struct Stepped {
-    chip: Chip,
+    chip: State,
     answer: u8,
     cycles: u8,
     kinds: [u8; 3],
@@ -159,7 +169,7 @@ struct Stepped {
 }
 
 extern "C" {
-    fn plus_reset() -> Chip;
+    fn plus_reset() -> State;
     fn plus_write_bc(chip: Chip, byte: u8) -> Answered;
     fn plus_write_bd(chip: Chip, byte: u8) -> Answered;
     fn plus_write_7f(chip: Chip, byte: u8) -> Answered;
@@ -196,11 +206,12 @@ extern "C" {
 impl Chip {
     /// The chip after reset.
     pub fn new() -> Chip {
-        unsafe { plus_reset() }
+        let state = unsafe { plus_reset() };
+        Chip { state }
     }
 
     fn answered(&mut self, answered: Answered) -> u8 {
-        *self = answered.chip;
+        self.state = answered.chip;
         answered.answer
     }
 
@@ -219,7 +230,7 @@ impl Chip {
     /// The answer and the byte.
     pub fn page_read(&mut self, store: &[u8], address: u16, bus: u8) -> (u8, u8) {
         let read = unsafe { plus_page_read(*self, store.as_ptr(), store.len(), address, bus) };
-        *self = read.chip;
+        self.state = read.chip;
         (read.answer, read.byte)
     }
 
@@ -232,13 +243,13 @@ impl Chip {
     /// The answer and the vector.
     pub fn acknowledge(&mut self) -> (u8, u8) {
         let acknowledged = unsafe { plus_acknowledge(*self) };
-        *self = acknowledged.chip;
+        self.state = acknowledged.chip;
         (acknowledged.answer, acknowledged.vector)
     }
 
     pub fn step(&mut self, ram: &[u8]) -> (u8, Report) {
         let stepped = unsafe { plus_step(*self, ram.as_ptr(), ram.len()) };
-        *self = stepped.chip;
+        self.state = stepped.chip;
         let report = Report {
             cycles: stepped.cycles,
             kinds: stepped.kinds,
@@ -259,6 +270,26 @@ impl Chip {
                 line.len(),
             )
         }
+    }
+}
+
+impl From<State> for Chip {
+    fn from(state: State) -> Chip {
+        Chip { state }
+    }
+}
+
+impl Deref for Chip {
+    type Target = State;
+
+    fn deref(&self) -> &State {
+        &self.state
+    }
+}
+
+impl DerefMut for Chip {
+    fn deref_mut(&mut self) -> &mut State {
+        &mut self.state
     }
 }
 

@@ -1,7 +1,7 @@
 //! The proved core against the model, and that the comparison can fail.
 
 use host::compare::{compare, Answer, Buffers, Call, Machine};
-use host::core::{self, Chip};
+use host::core::{self, Chip, State};
 use host::model::{Model, RAM};
 
 /// One million calls; the binary `compare` makes as many as it is told.
@@ -54,7 +54,7 @@ impl Machine for Faulty {
         answer
     }
 
-    fn state(&self) -> Chip {
+    fn state(&self) -> State {
         self.model.state()
     }
 }
@@ -302,7 +302,7 @@ fn a_whole_pixel_is_caught() {
             answer
         }
 
-        fn state(&self) -> Chip {
+        fn state(&self) -> State {
             self.0.state()
         }
     }

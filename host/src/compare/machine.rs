@@ -1,7 +1,7 @@
 //! The two machines that run a script: the core and the model.
 
 use super::Call;
-use crate::core::{self, Chip};
+use crate::core::{self, Chip, State};
 use crate::model::{self, Did, Kind, Model};
 
 /// Bytes that follow each buffer, for lengths above the right one.
@@ -58,7 +58,7 @@ impl Answer {
 
 pub trait Machine {
     fn call(&mut self, call: Call, lent: &mut Buffers) -> Answer;
-    fn state(&self) -> Chip;
+    fn state(&self) -> State;
 }
 
 impl Machine for Chip {
@@ -109,8 +109,8 @@ impl Machine for Chip {
         }
     }
 
-    fn state(&self) -> Chip {
-        *self
+    fn state(&self) -> State {
+        **self
     }
 }
 
@@ -162,8 +162,8 @@ impl Machine for Model {
         }
     }
 
-    fn state(&self) -> Chip {
-        Chip::from(self)
+    fn state(&self) -> State {
+        State::from(self)
     }
 }
 
@@ -212,15 +212,15 @@ macro_rules! same {
     }};
 }
 
-impl From<&Model> for Chip {
-    fn from(model: &Model) -> Chip {
+impl From<&Model> for State {
+    fn from(model: &Model) -> State {
         let model::Crtc {
             selected,
             registers,
             counters,
         } = model.crtc;
         let model::Sound { channels, psg } = model.sound;
-        Chip {
+        State {
             lock: same!(Lock { unlocked, stage } of model.lock),
             gate: same!(Gate { mode, mapped } of model.gate),
             crtc: core::Crtc {
@@ -247,7 +247,7 @@ impl From<&Model> for Chip {
 }
 
 /// The parts of the state that differ, both ways.
-pub(super) fn parts_that_differ(core: &Chip, expected: &Chip) -> String {
+pub(super) fn parts_that_differ(core: &State, expected: &State) -> String {
     let mut parts = String::from("the states differ:");
     macro_rules! part {
         ($($name:ident).+) => {
