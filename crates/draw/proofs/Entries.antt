@@ -1,18 +1,22 @@
 -- A line's entries, one after the other.
-use mathlib.Core.Path.{_≡_, _∙_}
+use mathlib.Core.Path.{_≡_, refl, sym, _∙_}
 use mathlib.Core.Bool.{true, false}
 use mathlib.Core.List.{List}
-use Prim.Native.Nat.{ℕ, _+_, _<_}
+use Prim.Native.Nat.{ℕ, _+_, _<_, _≤_}
 use borrow.Author.Count.{below-more}
-use borrow.Author.Tests.{ne-eqb}
+use borrow.Author.Tests.{ne-eqb, lt-ltb, le-ltb, le-leb, lt-leb}
 use native.Mathlib.Omega.{arith}
 use lib.ListN.{length, getD, set}
 use lib.Seq.{getD-set-same, getD-set-other}
-use Rattle.layers.specs.Overlay.{pixelOn, firstOn, noLineSprite}
-use Rattle.layers.specs.declared.overlay.LineSprites.{LineSprites}
-use Rattle.layers.proofs.Search.{search-found}
+use Rattle.words.proofs.Order.{either-side}
+use Rattle.overlay.specs.Overlay.{pixelOn, firstOn, noLineSprite}
+use Rattle.overlay.specs.Stretches.{Quiet, Clear}
+use Rattle.overlay.specs.declared.LineSprite.{LineSprite}
+use Rattle.overlay.specs.declared.LineSprites.{LineSprites}
+use Rattle.overlay.specs.declared.Stretch.{Stretch}
+use Rattle.overlay.proofs.Search.{search-found, search-quiet, search-same}
 use Rattle.draw.specs.declared.Edges.{Edges}
-use Rattle.draw.specs.Mixing.{outside, mainAt, mixedAt, Has}
+use Rattle.draw.specs.Mixing.{outside, mainAt, overAt, mixedAt, Has, Changed}
 
 pub has-none : (f : ℕ → ℕ) (l : List ℕ) → Has f 0 l
 has-none f l = record { entry = λ p h. absurd (omega arith) }
@@ -26,21 +30,116 @@ has-more {f} {x} {l} {v} has here inside =
           (getD-set-same l x v 0 inside ∙ here);
     }
 
--- the three ways to an entry
-module _ (pens : List ℕ) (shown : LineSprites) (store : List ℕ) (edges : Edges) (x : ℕ) where
-  pub border-entry : outside (edges .left) (edges .right) x ≡ true → 16 ≡ mixedAt pens shown store edges x
+-- a part that is changed from its start on
+module _ {f : ℕ → ℕ → ℕ} {from : ℕ} {before : List ℕ} where
+  pub changed-none : Changed f from from before before
+  changed-none = record { inside = λ x g h. absurd (omega arith); below = λ x h. refl; beyond = λ x h. refl }
+
+  module _ {x : ℕ} {l : List ℕ} (c : Changed f from x before l) where
+    -- one entry more: written, or right as it stands
+    pub changed-more : {v : ℕ} → from ≤ x → x < length l → v ≡ f x (getD before x 0) → Changed f from (x + 1) before (set l x v)
+    changed-more {v} past room here =
+        record {
+          inside =
+              λ p g h.
+              either-side p x (λ less. getD-set-other l x p v 0 (λ e. omega arith) ∙ c .inside p g less)
+              (λ more. let e : p ≡ x = omega arith in rw e (getD-set-same l x v 0 room ∙ here));
+          below = λ p h. getD-set-other l x p v 0 (λ e. omega arith) ∙ c .below p h;
+          beyond = λ p h. getD-set-other l x p v 0 (λ e. omega arith) ∙ c .beyond p (omega arith);
+        }
+
+    pub changed-kept : getD before x 0 ≡ f x (getD before x 0) → Changed f from (x + 1) before l
+    changed-kept here =
+        record {
+          inside =
+              λ p g h.
+              either-side p x (λ less. c .inside p g less)
+              (λ more. let e : p ≡ x = omega arith in rw e (c .beyond x (omega arith) ∙ here));
+          below = c .below;
+          beyond = λ p h. c .beyond p (omega arith);
+        }
+
+    -- one part more
+    pub changed-on : {to : ℕ} {after : List ℕ} → from ≤ x → x ≤ to → Changed f x to l after → Changed f from to before after
+    changed-on {to} {after} past more d =
+        record {
+          inside =
+              λ p g h.
+              either-side p x (λ less. d .below p less ∙ c .inside p g less)
+              (λ upper. d .inside p upper h ∙ rw (c .beyond p upper));
+          below = λ p h. d .below p (omega arith) ∙ c .below p h;
+          beyond = λ p h. d .beyond p h ∙ c .beyond p (omega arith);
+        }
+
+-- another function that gives the same there
+pub changed-same :
+    {f g : ℕ → ℕ → ℕ} {from to : ℕ} {before after : List ℕ} → Changed f from to before after →
+    ((x v : ℕ) → from ≤ x → x < to → f x v ≡ g x v) → Changed g from to before after
+changed-same c same =
+    record { inside = λ x g h. c .inside x g h ∙ same x _ g h; below = c .below; beyond = c .beyond }
+
+-- the search at a position x of a stretch, whose first sprites are quiet
+module _ (store : List ℕ) (list : List LineSprite) (x : ℕ) where
+  pub search-starts :
+      {from until first : ℕ} → ((k : ℕ) → k < first → Quiet list from until k) → from ≤ x → x < until → firstOn store list x first ≡ 0
+  search-starts {first = first} quiet past near = search-quiet store list x first (λ k h. quiet k h .none store x past near)
+
+  pub sprite-entry :
+      (k n v : ℕ) {p : ℕ} → k < n → firstOn store list x k ≡ 0 →
+      p ≡ pixelOn store (getD list k noLineSprite) x → (p ≡ 0 → ⊥) → 16 + p ≡ overAt store list n x v
+  unfolding overAt
+  sprite-entry k n v {p} h none here opaque = rw (search-found store list x k none here n h opaque, ne-eqb p 0 opaque)
+
+  pub no-entry : (n v : ℕ) → firstOn store list x n ≡ 0 → v ≡ overAt store list n x v
+  unfolding overAt
+  no-entry n v none = rw none
+
+-- those after the stretch's last are quiet too
+pub rest-quiet :
+    (store : List ℕ) {list : List LineSprite} {count from : ℕ} {s : Stretch} → Clear list count from s → (x v : ℕ) → from ≤ x →
+    x < s .until → overAt store list (s .last) x v ≡ overAt store list count x v
+unfolding overAt
+rest-quiet store {list} {count} {from} {s} clear x v past near =
+    rw (search-same store list x (s .last) count (clear .bound) (λ k f g. clear .after k f g .none store x past near))
+
+-- with no sprite at all nothing is laid
+pub none-laid : (store : List ℕ) (list : List LineSprite) {before : List ℕ} {count from to : ℕ} → count ≡ 0 → Changed (overAt store list count) from to before before
+none-laid store list {count = count} none =
+    record {
+      inside = λ x g h. no-entry store list x count _ (rw none (search-quiet store list x 0 (λ k h. absurd (omega arith))));
+      below = λ x h. refl;
+      beyond = λ x h. refl;
+    }
+
+-- border, then the pens over it, then the sprites over those
+module _ (pens : List ℕ) (shown : LineSprites) (store : List ℕ) (edges : Edges) where
+  pub border-mixed : {l : List ℕ} → edges .right ≤ edges .left → Has (λ x. 16) 640 l → Has (mixedAt pens shown store edges) 640 l
   unfolding mixedAt
-  border-entry h = rw h
+  border-mixed empty border =
+      record {
+        entry =
+            λ x h.
+            either-side x (edges .left) (λ less. rw (lt-ltb x (edges .left) less) (border .entry x h))
+            (λ more.
+            rw (le-ltb x (edges .left) more, le-leb (edges .right) x (omega arith)) (border .entry x h));
+      }
 
-  module _ (in-picture : outside (edges .left) (edges .right) x ≡ false) where
-    pub sprite-entry :
-        (k : ℕ) {p : ℕ} → k < shown .count → firstOn store (shown .list) x k ≡ 0 →
-        p ≡ pixelOn store (getD (shown .list) k noLineSprite) x → (p ≡ 0 → ⊥) → 16 + p ≡ mixedAt pens shown store edges x
-    unfolding mixedAt
-    sprite-entry k {p} h none here opaque =
-        rw (in-picture, search-found store (shown .list) x k none here (shown .count) h opaque, ne-eqb p 0 opaque)
-
-    pub pen-entry : {v : ℕ} → firstOn store (shown .list) x (shown .count) ≡ 0 → v ≡ mainAt pens (edges .scroll) x →
-        v ≡ mixedAt pens shown store edges x
-    unfolding mixedAt
-    pen-entry none main = rw (in-picture, none) main
+  pub all-mixed :
+      {l m n : List ℕ} → Has (λ x. 16) 640 l → Changed (λ x v. mainAt pens (edges .scroll) x) (edges .left) (edges .right) l m →
+      Changed (overAt store (shown .list) (shown .count)) (edges .left) (edges .right) m n → Has (mixedAt pens shown store edges) 640 n
+  unfolding mixedAt
+  all-mixed border laid over =
+      record {
+        entry =
+            λ x h.
+            either-side x (edges .left)
+            (λ less. rw (lt-ltb x (edges .left) less) (over .below x less ∙ laid .below x less ∙ border .entry x h))
+            (λ more.
+            either-side x (edges .right)
+            (λ inside.
+            rw (le-ltb x (edges .left) more, lt-leb (edges .right) x inside)
+            (over .inside x more inside ∙ rw (laid .inside x more inside)))
+            (λ beyond.
+            rw (le-ltb x (edges .left) more, le-leb (edges .right) x beyond)
+            (over .beyond x beyond ∙ laid .beyond x beyond ∙ border .entry x h)));
+      }

@@ -8,8 +8,8 @@ use lib.ListN.{length, getD}
 use Rattle.words.specs.Choice.{if, both, either, bit}
 use Rattle.crtc.specs.Line.{scrollLines}
 use Rattle.picture.specs.Screen.{rowLine}
-use Rattle.layers.specs.MainLine.{linePen}
-use Rattle.layers.specs.Overlay.{firstPixel}
+use Rattle.screen.specs.MainLine.{linePen}
+use Rattle.overlay.specs.Overlay.{firstPixel}
 use Rattle.chip.specs.declared.Chip.{Chip}
 use Rattle.chip.specs.Contracts.{done, wrongLength, modeThree}
 

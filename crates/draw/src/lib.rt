@@ -5,16 +5,17 @@ use chip::MODE_THREE;
 use chip::WRONG_LENGTH;
 use crtc::Counters;
 use crtc::Registers;
-use layers::overlay;
-use layers::overlay::LineSprites;
-use layers::screen;
+use overlay::LineSprite;
+use overlay::LineSprites;
+use overlay::Stretch;
 ghost use mathlib.Core.Path.{_≡_};
-ghost use Prim.Native.Nat.{_+_, _*_, _%_, _<_, _≤_};
+ghost use Prim.Native.Nat.{ℕ, _+_, _*_, _%_, _<_, _≤_};
 ghost use lib.ListN.{length};
 ghost use Rattle.crtc.specs.Line.{scrollLines};
 ghost use Rattle.picture.specs.Screen.{rowLine};
 ghost use Rattle.draw.specs.Drawing.{Draws};
-ghost use Rattle.draw.specs.Mixing.{leftOf, rightOf, outside, mainAt, mixedAt, Has};
+ghost use Rattle.overlay.specs.Stretches.{Quiet};
+ghost use Rattle.draw.specs.Mixing.{leftOf, rightOf, mainAt, overAt, mixedAt, Has, Changed};
 
 // Where a line is border, which is below `left` and from `right` on, and where its main screen starts.
 struct Edges {
@@ -23,43 +24,41 @@ struct Edges {
     scroll: usize,
 }
 
-// Whether x is border.
-fn is_border(x: usize, left: usize, right: usize) -> bool
-    ensures { λ r. ⌜ r ≡ outside left right x ⌝ }
+// The whole line as border.
+fn fill_border(line: &mut [u8])
+    requires { ⌜ length (now line) ≡ 640 ⌝ }
+    ensures { λ r. ⌜ Has (λ x. 16) 640 (now (line .exit)) ⌝ }
 {
-    if x < left {
-        return true;
+    let mut x = 0;
+    while x < 640 {
+        line[x] = 16;
+        x += 1;
     }
-    right <= x
 }
 
-// The main pen at x, with the line's pens: 0 left of the scroll.
-fn main_pen(pens: &[u8], x: usize, scroll: usize) -> u8
-    requires { ⌜ x < length (now pens) ⌝ }
-    ensures { λ r. ⌜ r ≡ mainAt (now (pens .entry)) scroll x ⌝ }
+// The main pens from one position up to another, with the line's pens.
+fn lay_pens(line: &mut [u8], pens: &[u8], scroll: usize, from: usize, to: usize)
+    requires { ⌜ (length (now line) ≡ 640) × (length (now pens) ≡ 656) × (scroll ≤ 16) × (from ≤ to) × (to ≤ 640) ⌝ }
+    ensures { λ r. ⌜ Changed (λ x v. mainAt (now (pens .entry)) scroll x) from to (now (line .entry)) (now (line .exit)) ⌝ }
 {
-    if x < scroll {
-        return 0;
+    let mut x = from;
+    while x < to {
+        line[x] = pens[x + 16 - scroll];
+        x += 1;
     }
-    pens[x - scroll]
 }
 
-// Each of the 640 entries: border, else the first sprite that isn't transparent there, else the main pen.
-fn mix(line: &mut [u8], pens: &[u8], shown: LineSprites, store: &[u8], edges: Edges)
-    requires { ⌜ (length (now line) ≡ 640) × (length (now pens) ≡ 640) × (shown .count ≤ 16) ⌝ }
-    ensures { λ r. ⌜ Has (mixedAt (now (pens .entry)) shown (now (store .entry)) edges) 640 (now (line .exit)) ⌝ }
+// The sprites of a stretch that starts at `from`: at each position the first of them that isn't transparent there.
+fn lay_stretch(line: &mut [u8], list: [LineSprite; 16], s: Stretch, store: &[u8], from: usize)
+    requires { ⌜ (length (now line) ≡ 640) × (s .first ≤ s .last) × (s .last ≤ 16) × (from ≤ s .until) × (s .until ≤ 640) ⌝ }
+    requires { ⌜ ((k : ℕ) → k < s .first → Quiet list from (s .until) k) ⌝ }
+    ensures { λ r. ⌜ Changed (overAt (now (store .entry)) list (s .last)) from (s .until) (now (line .entry)) (now (line .exit)) ⌝ }
 {
-    let list = shown.list;
-    let count = shown.count;
-    let left = edges.left;
-    let right = edges.right;
-    let scroll = edges.scroll;
-    'pixel: for x in 0..640 {
-        if is_border(x, left, right) {
-            line[x] = 16;
-            continue 'pixel;
-        }
-        for k in 0..count {
+    let first = s.first;
+    let last = s.last;
+    let until = s.until;
+    'pixel: for x in from..until {
+        for k in first..last {
             let e = list[k];
             let pixel = e.pixel(store, x as u16);
             if pixel != 0 {
@@ -67,8 +66,40 @@ fn mix(line: &mut [u8], pens: &[u8], shown: LineSprites, store: &[u8], edges: Ed
                 continue 'pixel;
             }
         }
-        line[x] = main_pen(pens, x, scroll);
     }
+}
+
+// The sprites from one position up to another, stretch by stretch.
+fn lay_sprites(line: &mut [u8], shown: LineSprites, store: &[u8], from: usize, to: usize)
+    requires { ⌜ (length (now line) ≡ 640) × (shown .count ≤ 16) × (from ≤ to) × (to ≤ 640) ⌝ }
+    ensures { λ r. ⌜ Changed (overAt (now (store .entry)) (shown .list) (shown .count)) from to (now (line .entry)) (now (line .exit)) ⌝ }
+{
+    let list = shown.list;
+    let count = shown.count;
+    if count == 0 {
+        return;
+    }
+    let mut x = from;
+    while x < to {
+        let s = overlay::stretch_from(list, count, x as u16, to);
+        lay_stretch(line, list, s, store, x);
+        x = s.until;
+    }
+}
+
+// Each of the 640 entries: border, else the first sprite that isn't transparent there, else the main pen.
+fn mix(line: &mut [u8], pens: &[u8], shown: LineSprites, store: &[u8], edges: Edges)
+    requires { ⌜ (length (now line) ≡ 640) × (length (now pens) ≡ 656) × (shown .count ≤ 16) × (edges .right ≤ 640) × (edges .scroll ≤ 16) ⌝ }
+    ensures { λ r. ⌜ Has (mixedAt (now (pens .entry)) shown (now (store .entry)) edges) 640 (now (line .exit)) ⌝ }
+{
+    let left = edges.left;
+    let right = edges.right;
+    fill_border(line);
+    if right <= left {
+        return;
+    }
+    lay_pens(line, pens, edges.scroll, left, right);
+    lay_sprites(line, shown, store, left, right);
 }
 
 // The left edge: 16 if SSCR bit 7 is set.
@@ -81,15 +112,18 @@ fn left_of(sscr: u8) -> usize
     0
 }
 
-// The right edge: after R1 characters. With the whole line border it is 0.
+// The right edge: after R1 characters, or the line's end. With the whole line border it is 0.
 fn right_of(r: Registers, c: Counters) -> usize
-    ensures { λ x. ⌜ x ≡ rightOf r c ⌝ }
+    ensures { λ x. ⌜ (x ≡ rightOf r c) × (x ≤ 640) ⌝ }
 {
     if c.adjust {
         return 0;
     }
     if r.r6 <= c.vc {
         return 0;
+    }
+    if 40 <= r.r1 {
+        return 640;
     }
     r.r1 as usize * 16
 }
@@ -139,7 +173,7 @@ pub fn draw(chip: Chip, ram: &[u8], store: &[u8], line: &mut [u8]) -> u8
     let sscr = chip.video.sscr;
     let pens = screen::line_pens(ram, mode, counters.address, row_line(counters.rc, sscr));
     let sprites = chip.sprites;
-    let shown = overlay::overlay(sprites, frame_line(registers, counters));
+    let shown = overlay::line_sprites(sprites, frame_line(registers, counters));
     let edges = Edges {
         left: left_of(sscr),
         right: right_of(registers, counters),

@@ -44,7 +44,7 @@ module _ (z : ℤ) (fits : SFits w16 z) where
   pub kept : below0 z ≡ false → toZ w16 (ofZ w16 z) ≡ pos (mag z)
   kept h = toZ-ofZ fits ∙ positive h
 
-pos-less : (a b : ℕ) → a < b → pos a -ℤ pos b ≡ negsuc (b - 1 - a)
+pub pos-less : (a b : ℕ) → a < b → pos a -ℤ pos b ≡ negsuc (b - 1 - a)
 pos-less a zero h = absurd (omega arith)
 pos-less a (suc b) h = rw (lt-ltb a (suc b) h) (ap negsuc (omega arith))
 

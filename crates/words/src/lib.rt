@@ -1,5 +1,6 @@
-// A sound word: its kind, its low 12 bits, and the bits of a control word.
+// A sound word: its kind, its low 12 bits, and the bits of a control word; and a byte of a lent buffer.
 ghost use mathlib.Core.Path.{_≡_};
+ghost use lib.ListN.{getD};
 ghost use Rattle.words.specs.Words.{kindOf, low12, loopBit, intBit, stopBit};
 
 // The kinds of word that a channel can execute.
@@ -51,4 +52,14 @@ pub fn stop_bit(low: u16) -> bool
     ensures { λ r. ⌜ r ≡ stopBit low ⌝ }
 {
     low / 32 % 2 == 1
+}
+
+// The byte at a place of a buffer, or 0 past its end.
+pub fn byte_at(bytes: &[u8], at: usize) -> u8
+    ensures { λ r. ⌜ r ≡ getD (now (bytes .entry)) at 0 ⌝ }
+{
+    if bytes.len() <= at {
+        return 0;
+    }
+    bytes[at]
 }

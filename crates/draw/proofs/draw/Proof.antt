@@ -38,8 +38,8 @@ line-pens-requires c κs = search needs
 frame-line-requires : tie.Need-frame-line-requires
 frame-line-requires c κs = search needs
 
-overlay-requires : tie.Need-overlay-requires
-overlay-requires c κs = search needs
+line-sprites-requires : tie.Need-line-sprites-requires
+line-sprites-requires c κs = search needs
 
 left-of-requires : tie.Need-left-of-requires
 left-of-requires c κs = search needs
@@ -72,9 +72,9 @@ returns-5 c =
     let g = p .before .before .before .before .before in
     let e = g .before .before in
     served _ _ _ _ _ (rw (p .before .row-line .ensures) at (p .line-pens .ensures))
-    (rw (f .frame-line .ensures) at (o .overlay .ensures))
+    (rw (f .frame-line .ensures) at (o .line-sprites .ensures))
     (simp (eq-eqb _ _ (e .before .before .if1 .left), eq-eqb _ _ (e .before .if2 .left), eq-eqb _ _ (e .if3 .left), ne-eqb _ _ (g .if4 .left)))
-    (rw (l .left-of .ensures, r .right-of .ensures, s .scroll-of .ensures) at (m .mix .ensures))
+    (rw (l .left-of .ensures, r .right-of .ensures .0, s .scroll-of .ensures) at (m .mix .ensures))
     (search needs)
 
 pub draw-spec : {M : Type 1} → statement M
@@ -88,7 +88,7 @@ draw-spec =
     row-line-requires
     line-pens-requires
     frame-line-requires
-    overlay-requires
+    line-sprites-requires
     left-of-requires
     right-of-requires
     scroll-of-requires

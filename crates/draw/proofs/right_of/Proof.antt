@@ -1,6 +1,6 @@
 -- `draw::right_of`: adjust, then VC against R6, then R1.
-use borrow.Author.Tests.{le-leb, lt-leb}
 use borrow.Author.Needs.{needs}
+use borrow.Author.Tests.{le-leb, lt-leb}
 use Rattle.draw.proofs.right_of.Statement.{statement}
 use Rattle.draw.proofs.right_of.Tie as tie
 
@@ -8,7 +8,12 @@ returns : tie.Need-returns
 returns c = search needs
 
 returns-2 : tie.Need-returns-2
-returns-2 c = simp (c .before .before .before .if1 .left, le-leb _ _ (c .if2 .taken))
+returns-2 c = (simp (c .before .before .before .if1 .left, le-leb _ _ (c .if2 .taken)), search needs)
+
+returns-3 : tie.Need-returns-3
+returns-3 c =
+    let e = c .before .before in
+    (simp (e .before .before .before .if1 .left, lt-leb _ _ (e .if2 .left), le-leb _ _ (c .if3 .taken)), search needs)
 
 cast-result : tie.Need-cast-result
 cast-result c = search needs
@@ -16,8 +21,11 @@ cast-result c = search needs
 mul-result : tie.Need-mul-result
 mul-result c = search needs
 
-returns-3 : tie.Need-returns-3
-returns-3 c = simp (c .before .before .before .before .if1 .left, lt-leb _ _ (c .before .if2 .left))
+returns-4 : tie.Need-returns-4
+returns-4 c =
+    let t = c .before in
+    let e = t .before .before in
+    (simp (e .before .before .before .if1 .left, lt-leb _ _ (e .if2 .left), lt-leb _ _ (t .if3 .left)), search needs)
 
 pub right-of-spec : {M : Type 1} → statement M
-right-of-spec = tie.close (tie.spec returns returns-2 cast-result mul-result returns-3)
+right-of-spec = tie.close (tie.spec returns returns-2 returns-3 cast-result mul-result returns-4)

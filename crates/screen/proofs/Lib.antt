@@ -1,0 +1,3 @@
+-- What the proofs share: the tables' rule, and pens in place.
+pub mod Table
+pub mod Storing

@@ -1,0 +1,105 @@
+-- Values that a loop stores one after the other, and a line's pens stored eight at a time.
+use mathlib.Core.Path.{_≡_, refl, ap, _∙_}
+use mathlib.Core.List.{List}
+use Prim.Native.Nat.{ℕ, zero, suc, _+_, _-_, _*_, _/_, _%_, _<_}
+use native.Mathlib.Omega.{arith}
+use borrow.Author.Count.{below-more}
+use borrow.Author.Tests.{lt-ltb, le-ltb}
+use lib.ListN.{length, getD, set}
+use lib.Seq.{getD-set-same, getD-set-other}
+use Rattle.picture.specs.Pens.{widthOf, penAt}
+use Rattle.picture.specs.Screen.{characterAt, byteAddress}
+use Rattle.screen.specs.Tables.{listed, eight}
+use Rattle.screen.specs.MainLine.{linePen, characterPen, Placed}
+use Rattle.words.proofs.Order.{either-side}
+
+pub placed-none : {f : ℕ → ℕ} {at : ℕ} {l : List ℕ} → Placed f at 0 l l
+placed-none = record { kept = λ p h. refl; put = λ j h. absurd (omega arith) }
+
+-- one value more
+pub placed-more :
+    {f : ℕ → ℕ} {at n : ℕ} {before l : List ℕ} {v : ℕ} → Placed f at n before l → at + n < length l → v ≡ f n →
+    Placed f at (n + 1) before (set l (at + n) v)
+placed-more {f} {at} {n} {before} {l} {v} s inside here =
+    record {
+      kept = λ p h. getD-set-other l (at + n) p v 0 (λ e. omega arith) ∙ s .kept p h;
+      put =
+          below-more _ n
+          (λ j h. getD-set-other l (at + n) (at + j) v 0 (λ e. omega arith) ∙ s .put j h)
+          (getD-set-same l (at + n) v 0 inside ∙ here);
+    }
+
+getD-listed : (f : ℕ → ℕ) (i n j : ℕ) → j < n → getD (listed f i n) j 0 ≡ f (i + j)
+getD-listed f i zero j h = absurd (omega arith)
+getD-listed f i (suc n) zero h = ap f (omega arith)
+getD-listed f i (suc n) (suc j) h = getD-listed f (suc i) n j (omega arith) ∙ ap f (omega arith)
+
+pub one-of-eight : (f : ℕ → ℕ) {l : List ℕ} {j : ℕ} → l ≡ eight f → j < 8 → getD l j 0 ≡ f j
+one-of-eight f {l} {j} are h = rw are (getD-listed f 0 8 j h ∙ ap f (omega arith))
+
+-- a list has 16 of pen 0, then a line's pens below a position
+pub record PensBelow (ram : List ℕ) (mode address row n : ℕ) (l : List ℕ) : Type 0 where
+  pub lead : (p : ℕ) → p < 16 → getD l p 0 ≡ 0
+  pub pen : (p : ℕ) → p < n → getD l (16 + p) 0 ≡ linePen ram mode address row p
+
+-- two bytes' values in place are a character's
+pub placed-both :
+    (width left right : ℕ) {at : ℕ} {l l′ l″ : List ℕ} → Placed (penAt width left) at 8 l l′ → Placed (penAt width right) (at + 8) 8 l′ l″ →
+    Placed (characterPen width left right) at 16 l l″
+unfolding characterPen
+placed-both width left right {at} {l} {l′} {l″} first second =
+    record {
+      kept = λ p h. second .kept p (omega arith) ∙ first .kept p h;
+      put =
+          λ j h.
+          either-side j 8
+          (λ less.
+          let e : j % 8 ≡ j = omega arith in
+          rw (lt-ltb j 8 less, e) (second .kept (at + j) (omega arith) ∙ first .put j less))
+          (λ more.
+          let e : j % 8 ≡ j - 8 = omega arith in
+          let p : at + 8 + (j - 8) ≡ at + j = omega arith in
+          rw (le-ltb j 8 more, e) (rw p at (second .put (j - 8) (omega arith))));
+    }
+
+-- the second of a character's bytes lies one above the first
+above : (a row : ℕ) → byteAddress a row 0 + 1 ≡ byteAddress a row 1
+unfolding byteAddress
+above a row = omega arith
+
+module _ (ram : List ℕ) (mode address row c : ℕ) where
+  -- position j of character c
+  here : {left right at : ℕ} → at ≡ byteAddress (characterAt address c) row 0 → left ≡ getD ram at 0 → right ≡ getD ram (at + 1) 0 →
+      (j : ℕ) → j < 16 → characterPen (widthOf mode) left right j ≡ linePen ram mode address row (c * 16 + j)
+  unfolding characterPen linePen
+  here {left} {right} {at} is-at is-left is-right j h =
+      let e : (c * 16 + j) / 16 ≡ c = omega arith in
+      either-side j 8
+      (λ less.
+      let k : (c * 16 + j) / 8 % 2 ≡ 0 = omega arith in
+      let r : (c * 16 + j) % 8 ≡ j = omega arith in
+      let s : j % 8 ≡ j = omega arith in
+      rw (lt-ltb j 8 less, e, k, r, s, is-left, is-at))
+      (λ more.
+      let k : (c * 16 + j) / 8 % 2 ≡ 1 = omega arith in
+      let r : (c * 16 + j) % 8 ≡ j - 8 = omega arith in
+      let s : j % 8 ≡ j - 8 = omega arith in
+      rw (le-ltb j 8 more, e, k, r, s, is-right, is-at, above (characterAt address c) row))
+
+  -- one character more
+  pub character-more :
+      {left right at : ℕ} {l l′ : List ℕ} → PensBelow ram mode address row (c * 16) l →
+      at ≡ byteAddress (characterAt address c) row 0 → left ≡ getD ram at 0 → right ≡ getD ram (at + 1) 0 →
+      Placed (characterPen (widthOf mode) left right) (16 + c * 16) 16 l l′ → PensBelow ram mode address row ((c + 1) * 16) l′
+  character-more {left} {right} {at} {l} {l′} below is-at is-left is-right placed =
+      record {
+        lead = λ p h. placed .kept p (omega arith) ∙ below .lead p h;
+        pen =
+            λ p h.
+            either-side p (c * 16) (λ lower. placed .kept (16 + p) (omega arith) ∙ below .pen p lower)
+            (λ upper.
+            let j : ℕ = p - c * 16 in
+            let e : c * 16 + j ≡ p = omega arith in
+            let a : 16 + c * 16 + j ≡ 16 + p = omega arith in
+            rw (a, e) at (placed .put j (omega arith) ∙ here is-at is-left is-right j (omega arith)));
+      }
