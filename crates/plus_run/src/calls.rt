@@ -124,7 +124,8 @@ fn stepped(chip: Chip, ram: &[u8], out: &mut [u8], at: usize) -> Machine
 {
     let told = chip::line::step(chip, ram);
     let after = told.chip;
-    let next = lines::stepped(out, at, told);
+    let report = told.report;
+    let next = lines::stepped(out, at, told.answer, report);
     Machine {
         chip: after,
         at: next,

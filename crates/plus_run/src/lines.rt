@@ -1,7 +1,7 @@
 // The lines of output.
 use crate::text;
-use chip::Stepped;
 use forecast::Length;
+use sound::Report;
 ghost use Prim.Native.Nat.{_+_, _≤_};
 ghost use lib.ListN.{length};
 ghost use Rattle.plus_run.specs.Text.{Puts};
@@ -29,12 +29,11 @@ pub fn two(out: &mut [u8], at: usize, answer: u8, byte: u8) -> usize
 }
 
 // A line step: the answer, the cycles and the three channels.
-pub fn stepped(out: &mut [u8], at: usize, told: Stepped) -> usize
+pub fn stepped(out: &mut [u8], at: usize, answer: u8, report: Report) -> usize
     requires { ⌜ at + 129 ≤ length (now out) ⌝ }
-    ensures { λ r. ⌜ Puts (now (out .entry)) at (stepLine (told .answer) (told .report)) (now (out .exit)) r ⌝ }
+    ensures { λ r. ⌜ Puts (now (out .entry)) at (stepLine answer report) (now (out .exit)) r ⌝ }
     ensures { λ r. ⌜ r ≤ at + 129 ⌝ }
 {
-    let report = told.report;
     let entries = report.entries;
     let zero = entries[0];
     let one = entries[1];
@@ -42,7 +41,7 @@ pub fn stepped(out: &mut [u8], at: usize, told: Stepped) -> usize
     let did_zero = zero.did;
     let did_one = one.did;
     let did_two = two.did;
-    let a = text::number(out, at, told.answer as u64);
+    let a = text::number(out, at, answer as u64);
     let b = text::spaced(out, a, report.cycles as u64);
     let c = text::did(out, b, did_zero);
     let d = text::did(out, c, did_one);

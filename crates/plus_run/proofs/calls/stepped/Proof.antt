@@ -16,7 +16,7 @@ same-length c = search needs
 returns : tie.Need-returns
 unfolding lineStepLine
 returns c =
-    record { chip = c .before .before .before .before .before .step .ensures .chip; puts = simp (c .before .before .before .before .before .step .ensures .answer, c .before .before .before .before .before .step .ensures .report) at (c .before .before .stepped .ensures .0); bound = search needs }
+    record { chip = c .before .before .before .before .before .before .step .ensures .chip; puts = simp (c .before .before .before .before .before .before .step .ensures .answer, c .before .before .before .before .before .before .step .ensures .report) at (c .before .before .stepped .ensures .0); bound = search needs }
 
 pub stepped-spec : {M : Type 1} → statement M
 stepped-spec = tie.close (tie.spec step-requires stepped-requires same-length returns)

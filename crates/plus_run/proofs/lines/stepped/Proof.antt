@@ -13,9 +13,6 @@ array-copy-out-one c = search needs
 array-copy-out-two : tie.Need-array-copy-out-two
 array-copy-out-two c = search needs
 
-cast-number : tie.Need-cast-number
-cast-number c = search needs
-
 number-requires : tie.Need-number-requires
 number-requires c κs = search needs
 
@@ -50,7 +47,6 @@ stepped-spec =
     array-copy-out-zero
     array-copy-out-one
     array-copy-out-two
-    cast-number
     number-requires
     cast-spaced
     spaced-requires
