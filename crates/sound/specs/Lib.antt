@@ -2,4 +2,4 @@
 pub mod Channels
 pub mod Line
 -- for the code's loop only, cited by no public promise
-pub mod Turns
+pub mod Tally

@@ -1,11 +1,11 @@
 // The three sound channels and the PSG: what one line does to them, and what it reports.
 use words::WordKind;
+ghost use mathlib.Core.Bool.{true};
 ghost use mathlib.Core.Path.{_≡_};
-ghost use Prim.Native.Nat.{_<_};
-ghost use lib.ListN.{getD};
-ghost use Rattle.sound.specs.Channels.{wordAt, counted, active, fetched, looped, interrupted, stopped, paused, repeated, controlled, executed, turnOf};
-ghost use Rattle.sound.specs.Line.{loaded, ownCycles, psgAfter, cyclesOf, soundLine};
-ghost use Rattle.sound.specs.Turns.{advanced, turnsOf};
+ghost use Prim.Native.Nat.{_≤_};
+ghost use Rattle.sound.specs.Channels.{wordAt, counted, fetched, looped, paused, repeated, controlled, executed, played, turnOf};
+ghost use Rattle.sound.specs.Line.{ownCycles, soundLine};
+ghost use Rattle.sound.specs.Tally.{tallied};
 
 // One channel. `count` is the lines counted towards the next fall of `pause`, `counter` the passes
 // that LOOP has left, `mark` where LOOP goes back to.
@@ -57,35 +57,23 @@ pub struct SoundLine {
     pub report: Report,
 }
 
-// The byte at an address; 0 past the end of a short RAM.
-fn byte_at(ram: &[u8], at: usize) -> u8
-    ensures { λ r. ⌜ r ≡ getD (now (ram .entry)) at 0 ⌝ }
-{
-    if at < ram.len() {
-        return ram[at];
-    }
-    0
-}
-
 // The word at an address, low byte first.
 pub fn word_at(ram: &[u8], address: u16) -> u16
     ensures { λ r. ⌜ r ≡ wordAt (now (ram .entry)) address ⌝ }
 {
     let at = address as usize;
-    let low = byte_at(ram, at);
-    let high = byte_at(ram, (at + 1) % 65536);
+    let low = words::byte_at(ram, at);
+    let high = words::byte_at(ram, (at + 1) % 65536);
     high as u16 * 256 + low as u16
 }
 
 impl Channel {
-    // One more line of the pause.
+    // One more line of the pause, if there is one.
     fn counted(self) -> Channel
+        requires { ⌜ self .enabled ≡ true ⌝ }
         ensures { λ r. ⌜ r ≡ counted self ⌝ }
     {
         let mut c = self;
-        if !c.enabled {
-            return c;
-        }
         if c.pause == 0 {
             return c;
         }
@@ -96,16 +84,6 @@ impl Channel {
         c.count = 0;
         c.pause -= 1;
         c
-    }
-
-    // Whether the channel executes a word on this line, asked after counting.
-    fn active(self) -> bool
-        ensures { λ r. ⌜ r ≡ active self ⌝ }
-    {
-        if !self.enabled {
-            return false;
-        }
-        self.pause == 0
     }
 
     // The channel with its address past the word that it fetches.
@@ -130,30 +108,6 @@ impl Channel {
         }
         c.counter -= 1;
         c.address = c.mark;
-        c
-    }
-
-    // INT, if its bit is set.
-    fn interrupted(self, on: bool) -> Channel
-        ensures { λ r. ⌜ r ≡ interrupted on self ⌝ }
-    {
-        let mut c = self;
-        if !on {
-            return c;
-        }
-        c.interrupt = true;
-        c
-    }
-
-    // STOP, if its bit is set.
-    fn stopped(self, on: bool) -> Channel
-        ensures { λ r. ⌜ r ≡ stopped on self ⌝ }
-    {
-        let mut c = self;
-        if !on {
-            return c;
-        }
-        c.enabled = false;
         c
     }
 
@@ -184,9 +138,10 @@ impl Channel {
     fn controlled(self, low: u16) -> Channel
         ensures { λ r. ⌜ r ≡ controlled low self ⌝ }
     {
-        let looped = self.looped(words::loop_bit(low));
-        let interrupted = looped.interrupted(words::int_bit(low));
-        interrupted.stopped(words::stop_bit(low))
+        let mut c = self.looped(words::loop_bit(low));
+        c.interrupt = words::int_bit(low) | c.interrupt;
+        c.enabled = !words::stop_bit(low) & c.enabled;
+        c
     }
 
     // The channel after a word of this kind.
@@ -202,50 +157,48 @@ impl Channel {
         }
     }
 
-    // One line of this channel.
-    pub fn line(self, ram: &[u8]) -> Turn
-        ensures { λ r. ⌜ r ≡ turnOf (now (ram .entry)) self ⌝ }
+    // The word at the channel's address, fetched and executed.
+    fn played(self, ram: &[u8]) -> Turn
+        ensures { λ r. ⌜ r ≡ played self (wordAt (now (ram .entry)) (self .address)) ⌝ }
     {
-        let c = self.counted();
-        if !c.active() {
-            return Turn {
-                channel: c,
-                did: Did::SatOut,
-            };
-        }
-        let word = word_at(ram, c.address);
+        let word = word_at(ram, self.address);
         let kind = words::kind_of(word);
         let low = words::low_12(word);
-        let next = c.fetched().executed(kind, low);
+        let next = self.fetched().executed(kind, low);
         Turn {
             channel: next,
             did: Did::Executed(kind, low),
         }
     }
+
+    // One line of this channel: counting first, then, if it is active, one word.
+    pub fn line(self, ram: &[u8]) -> Turn
+        ensures { λ r. ⌜ r ≡ turnOf (now (ram .entry)) self ⌝ }
+    {
+        if !self.enabled {
+            return Turn {
+                channel: self,
+                did: Did::SatOut,
+            };
+        }
+        let c = self.counted();
+        if c.pause != 0 {
+            return Turn {
+                channel: c,
+                did: Did::SatOut,
+            };
+        }
+        c.played(ram)
+    }
+}
+
+// What the channels have added up to so far: the PSG registers, and the line's cycles.
+struct Tally {
+    psg: [u8; 16],
+    cycles: u8,
 }
 
 impl Entry {
-    // The PSG registers after this: a LOAD sets one.
-    fn loaded(self, psg: [u8; 16]) -> [u8; 16]
-        ensures { λ r. ⌜ r ≡ loaded psg (self .did) ⌝ }
-    {
-        let did = self.did;
-        match did {
-            Did::SatOut => psg,
-            Did::Executed(kind, low) => match kind {
-                WordKind::Load => {
-                    let mut next = psg;
-                    next[(low / 256 % 16) as usize] = (low % 256) as u8;
-                    next
-                }
-                WordKind::Pause => psg,
-                WordKind::Repeat => psg,
-                WordKind::Control => psg,
-                WordKind::Nothing => psg,
-            },
-        }
-    }
-
     // The channel's own cycles on the line: its fetch and its word's cost, or 0.
     pub fn own_cycles(self) -> u8
         ensures { λ r. ⌜ r ≡ ownCycles (self .did) ⌝ }
@@ -253,86 +206,60 @@ impl Entry {
         let did = self.did;
         match did {
             Did::SatOut => 0,
-            Did::Executed(kind, _) => match kind {
-                WordKind::Load => 9,
-                WordKind::Pause => 2,
-                WordKind::Repeat => 2,
-                WordKind::Control => 2,
-                WordKind::Nothing => 2,
-            },
+            Did::Executed(kind, _) => {
+                if words::is_load(kind) {
+                    return 9;
+                }
+                2
+            }
+        }
+    }
+
+    // One more channel in the tally: a LOAD sets a register, and its cycles are added.
+    fn tallied(self, before: Tally) -> Tally
+        requires { ⌜ before .cycles ≤ 246 ⌝ }
+        ensures { λ r. ⌜ r ≡ tallied before (self .did) ⌝ }
+    {
+        let did = self.did;
+        match did {
+            Did::SatOut => before,
+            Did::Executed(kind, low) => {
+                let cycles = before.cycles + self.own_cycles();
+                let mut psg = before.psg;
+                if !words::is_load(kind) {
+                    return Tally { psg, cycles };
+                }
+                psg[(low / 256 % 16) as usize] = (low % 256) as u8;
+                Tally { psg, cycles }
+            }
         }
     }
 }
 
-// For the loop below only: the channels worked through so far, and what each of those did.
-struct Turns {
-    channels: [Channel; 3],
-    entries: [Entry; 3],
-}
-
-// One more channel, n, worked through.
-fn advanced(turns: Turns, n: usize, ram: &[u8]) -> Turns
-    requires { ⌜ n < 3 ⌝ }
-    ensures { λ r. ⌜ r ≡ advanced (now (ram .entry)) turns n ⌝ }
-{
-    let mut channels = turns.channels;
-    let mut entries = turns.entries;
-    let channel = channels[n];
-    let turn = channel.line(ram);
-    let next = turn.channel;
-    let did = turn.did;
-    channels[n] = next;
-    entries[n] = Entry { did };
-    Turns { channels, entries }
-}
-
-// The three channels worked through in order.
-fn turns_of(channels: [Channel; 3], ram: &[u8]) -> Turns
-    ensures { λ r. ⌜ r ≡ turnsOf (now (ram .entry)) channels ⌝ }
-{
-    let entries = [Entry { did: Did::SatOut }; 3];
-    let mut turns = Turns { channels, entries };
-    let mut n = 0;
-    while n < 3 {
-        turns = advanced(turns, n, ram);
-        n += 1;
-    }
-    turns
-}
-
-// The PSG after what the channels did, in order.
-fn psg_after(psg: [u8; 16], entries: [Entry; 3]) -> [u8; 16]
-    ensures { λ r. ⌜ r ≡ psgAfter psg entries ⌝ }
-{
-    let first = entries[0];
-    let second = entries[1];
-    let third = entries[2];
-    let after_first = first.loaded(psg);
-    let after_second = second.loaded(after_first);
-    third.loaded(after_second)
-}
-
-// The line's cycles: a dead one, and each channel's own.
-fn cycles_of(entries: [Entry; 3]) -> u8
-    ensures { λ r. ⌜ r ≡ cyclesOf entries ⌝ }
-{
-    let first = entries[0];
-    let second = entries[1];
-    let third = entries[2];
-    1 + first.own_cycles() + second.own_cycles() + third.own_cycles()
-}
-
-// One line of all three channels.
+// One line of all three channels, worked through in order.
 pub fn sound_line(sound: Sound, ram: &[u8]) -> SoundLine
     ensures { λ r. ⌜ r ≡ soundLine (now (ram .entry)) sound ⌝ }
 {
-    let before = sound.channels;
-    let turns = turns_of(before, ram);
-    let channels = turns.channels;
-    let entries = turns.entries;
+    let mut channels = sound.channels;
+    let mut entries = [Entry { did: Did::SatOut }; 3];
     let registers = sound.psg;
-    let psg = psg_after(registers, entries);
-    let cycles = cycles_of(entries);
+    let mut tally = Tally {
+        psg: registers,
+        cycles: 1,
+    };
+    let mut n = 0;
+    while n < 3 {
+        let turn = channels[n].line(ram);
+        let next = turn.channel;
+        let did = turn.did;
+        let entry = Entry { did };
+        channels[n] = next;
+        entries[n] = entry;
+        tally = entry.tallied(tally);
+        n += 1;
+    }
+    let cycles = tally.cycles;
+    let psg = tally.psg;
     SoundLine {
         sound: Sound { channels, psg },
         report: Report { cycles, entries },

@@ -1,8 +1,25 @@
--- `sound::Channel::controlled`: LOOP, INT and STOP one after another.
+-- `sound::Channel::controlled`: LOOP, then INT and STOP in the flags.
 use borrow.Author.Needs.{needs}
-use Rattle.sound.specs.Channels.{controlled}
+use mathlib.Core.Bool.{Bool, true, false, not, _&&_, _||_}
+use mathlib.Core.Path.{_≡_, refl, _∙_}
+use Prim.Native.Nat.{ℕ}
+use Rattle.words.specs.Words.{loopBit, intBit, stopBit}
+use Rattle.sound.specs.declared.Channel.{Channel}
+use Rattle.sound.specs.Channels.{withFlags, looped, interrupted, stopped, controlled}
 use Rattle.sound.proofs.Channel.controlled.Statement.{statement}
 use Rattle.sound.proofs.Channel.controlled.Tie as tie
+
+-- i and s are the bits INT and STOP
+flags : (i s : Bool) (c : Channel) → withFlags c (not s && c .enabled) (i || c .interrupt) ≡ stopped s (interrupted i c)
+flags true true c = refl
+flags true false c = refl
+flags false true c = refl
+flags false false c = refl
+
+each-bit : (c l : Channel) (n : ℕ) (b i s : Bool) → b ≡ loopBit n → l ≡ looped b c → i ≡ intBit n → s ≡ stopBit n →
+    stopped s (interrupted i l) ≡ controlled n c
+unfolding controlled
+each-bit c l n b i s eb el ei es = rw (es, ei, el, eb)
 
 loop-bit-requires : tie.Need-loop-bit-requires
 loop-bit-requires c κs = search needs
@@ -13,35 +30,28 @@ looped-requires c κs = search needs
 int-bit-requires : tie.Need-int-bit-requires
 int-bit-requires c κs = search needs
 
-interrupted-requires : tie.Need-interrupted-requires
-interrupted-requires c κs = search needs
-
 stop-bit-requires : tie.Need-stop-bit-requires
 stop-bit-requires c κs = search needs
 
-stopped-requires : tie.Need-stopped-requires
-stopped-requires c κs = search needs
-
 returns : tie.Need-returns
-unfolding controlled
 returns c =
-    simp (
-      c .stopped .ensures,
-      c .before .stop-bit .ensures,
-      c .before .before .interrupted .ensures,
-      c .before .before .before .int-bit .ensures,
-      c .before .before .before .before .looped .ensures,
-      c .before .before .before .before .before .loop-bit .ensures,
-    )
+    let i = c .before .before .before .int-bit .result in
+    let s = c .before .stop-bit .result in
+    let l = c .before .before .before .before .looped .result in
+    flags i s l ∙
+    each-bit
+    _
+    l
+    _
+    _
+    i
+    s
+    (c .before .before .before .before .before .loop-bit .ensures)
+    (c .before .before .before .before .looped .ensures)
+    (c .before .before .before .int-bit .ensures)
+    (c .before .stop-bit .ensures)
 
 pub controlled-spec : {M : Type 1} → statement M
 controlled-spec =
     tie.close
-    (tie.spec
-    loop-bit-requires
-    looped-requires
-    int-bit-requires
-    interrupted-requires
-    stop-bit-requires
-    stopped-requires
-    returns)
+    (tie.spec loop-bit-requires looped-requires int-bit-requires stop-bit-requires returns)
