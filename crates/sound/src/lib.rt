@@ -3,7 +3,7 @@ use words::WordKind;
 ghost use mathlib.Core.Bool.{true};
 ghost use mathlib.Core.Path.{_≡_};
 ghost use Prim.Native.Nat.{_≤_};
-ghost use Rattle.sound.specs.Channels.{wordAt, counted, fetched, looped, paused, repeated, controlled, executed, played, turnOf};
+ghost use Rattle.sound.specs.Channels.{wordAt, counted, fetched, looped, paused, repeated, controlled, executed, turnOf};
 ghost use Rattle.sound.specs.Line.{ownCycles, soundLine};
 ghost use Rattle.sound.specs.Tally.{tallied};
 
@@ -157,20 +157,6 @@ impl Channel {
         }
     }
 
-    // The word at the channel's address, fetched and executed.
-    fn played(self, ram: &[u8]) -> Turn
-        ensures { λ r. ⌜ r ≡ played self (wordAt (now (ram .entry)) (self .address)) ⌝ }
-    {
-        let word = word_at(ram, self.address);
-        let kind = words::kind_of(word);
-        let low = words::low_12(word);
-        let next = self.fetched().executed(kind, low);
-        Turn {
-            channel: next,
-            did: Did::Executed(kind, low),
-        }
-    }
-
     // One line of this channel: counting first, then, if it is active, one word.
     pub fn line(self, ram: &[u8]) -> Turn
         ensures { λ r. ⌜ r ≡ turnOf (now (ram .entry)) self ⌝ }
@@ -188,7 +174,14 @@ impl Channel {
                 did: Did::SatOut,
             };
         }
-        c.played(ram)
+        let word = word_at(ram, c.address);
+        let kind = words::kind_of(word);
+        let low = words::low_12(word);
+        let next = c.fetched().executed(kind, low);
+        Turn {
+            channel: next,
+            did: Did::Executed(kind, low),
+        }
     }
 }
 

@@ -5,13 +5,13 @@ use Rattle.sound.proofs.word_at.Statement.{statement}
 use Rattle.sound.proofs.word_at.Tie as tie
 
 byte-at-requires : tie.Need-byte-at-requires
-byte-at-requires c κs = search needs
+byte-at-requires c κs = tt
 
 add-byte-at : tie.Need-add-byte-at
 add-byte-at c = search needs
 
 byte-at-requires-2 : tie.Need-byte-at-requires-2
-byte-at-requires-2 c κs = search needs
+byte-at-requires-2 c κs = tt
 
 cast-result : tie.Need-cast-result
 cast-result c = search needs

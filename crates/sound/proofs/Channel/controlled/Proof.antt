@@ -1,5 +1,4 @@
 -- `sound::Channel::controlled`: LOOP, then INT and STOP in the flags.
-use borrow.Author.Needs.{needs}
 use mathlib.Core.Bool.{Bool, true, false, not, _&&_, _||_}
 use mathlib.Core.Path.{_≡_, refl, _∙_}
 use Prim.Native.Nat.{ℕ}
@@ -22,16 +21,16 @@ unfolding controlled
 each-bit c l n b i s eb el ei es = rw (es, ei, el, eb)
 
 loop-bit-requires : tie.Need-loop-bit-requires
-loop-bit-requires c κs = search needs
+loop-bit-requires c κs = tt
 
 looped-requires : tie.Need-looped-requires
-looped-requires c κs = search needs
+looped-requires c κs = tt
 
 int-bit-requires : tie.Need-int-bit-requires
-int-bit-requires c κs = search needs
+int-bit-requires c κs = tt
 
 stop-bit-requires : tie.Need-stop-bit-requires
-stop-bit-requires c κs = search needs
+stop-bit-requires c κs = tt
 
 returns : tie.Need-returns
 returns c =

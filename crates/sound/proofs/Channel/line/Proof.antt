@@ -1,14 +1,15 @@
 -- `sound::Channel::line`: counting, then one word if active.
-use borrow.Author.Needs.{needs}
 use borrow.Author.Tests.{not-true, not-false, ne-eqb}
 use mathlib.Core.Bool.{Bool, true, false}
 use mathlib.Core.List.{List}
 use mathlib.Core.Path.{_≡_, refl, _∙_}
 use Prim.Native.Nat.{ℕ}
 use Rattle.words.specs.Choice.{if, both}
+use Rattle.words.specs.Words.{kindOf, low12}
+use Rattle.words.specs.declared.WordKind.{WordKind}
 use Rattle.sound.specs.declared.Channel.{Channel}
-use Rattle.sound.specs.declared.Did.the-variants.{SatOut}
-use Rattle.sound.specs.Channels.{wordAt, counted, active, played, turnOf}
+use Rattle.sound.specs.declared.Did.the-variants.{SatOut, Executed}
+use Rattle.sound.specs.Channels.{wordAt, counted, active, fetched, executed, played, turnOf}
 use Rattle.sound.proofs.Channel.line.Statement.{statement}
 use Rattle.sound.proofs.Channel.line.Tie as tie
 
@@ -41,6 +42,11 @@ word-due : (ram : List ℕ) (s c : Channel) → s .enabled ≡ true → c ≡ co
 unfolding active turnOf
 word-due ram s c on e p = rw (← e, rw (← e) at (still-on s) ∙ on, p)
 
+-- f has fetched the word w from c, and x has executed it
+word-done : (c f x : Channel) (v w l : ℕ) (k : WordKind) → v ≡ w → k ≡ kindOf v → l ≡ low12 v → f ≡ fetched c →
+    x ≡ executed k l f → record { channel = x; did = Executed k l } ≡ played c w
+word-done c f x v w l k ev ek el ef ex = rw (ex, ef, ek, el, ev)
+
 returns : tie.Need-returns
 returns c = off _ _ (not-true _ (c .if1 .taken))
 
@@ -50,19 +56,55 @@ counted-requires c κs = not-false _ (c .if1 .left)
 returns-2 : tie.Need-returns-2
 returns-2 c = pausing _ _ _ (c .before .before .counted .ensures) (c .if2 .taken)
 
-played-requires : tie.Need-played-requires
-played-requires c κs = search needs
+word-at-requires : tie.Need-word-at-requires
+word-at-requires c κs = tt
+
+kind-of-requires : tie.Need-kind-of-requires
+kind-of-requires c κs = tt
+
+low-12-requires : tie.Need-low-12-requires
+low-12-requires c κs = tt
+
+fetched-requires : tie.Need-fetched-requires
+fetched-requires c κs = tt
+
+executed-requires : tie.Need-executed-requires
+executed-requires c κs = tt
 
 returns-3 : tie.Need-returns-3
 returns-3 c =
-    c .played .ensures ∙
+    let w = c .before .before .before .before in
+    word-done
+    _
+    _
+    _
+    _
+    _
+    _
+    _
+    (w .word-at .ensures)
+    (c .before .before .before .kind-of .ensures)
+    (c .before .before .low-12 .ensures)
+    (c .before .fetched .ensures)
+    (c .executed .ensures) ∙
     word-due
     _
     _
     _
-    (not-false _ (c .before .before .before .before .if1 .left))
-    (c .before .before .before .counted .ensures)
-    (c .before .if2 .left)
+    (not-false _ (w .before .before .before .before .if1 .left))
+    (w .before .before .before .counted .ensures)
+    (w .before .if2 .left)
 
 pub line-spec : {M : Type 1} → statement M
-line-spec = tie.close (tie.spec returns counted-requires returns-2 played-requires returns-3)
+line-spec =
+    tie.close
+    (tie.spec
+    returns
+    counted-requires
+    returns-2
+    word-at-requires
+    kind-of-requires
+    low-12-requires
+    fetched-requires
+    executed-requires
+    returns-3)

@@ -31,7 +31,7 @@ enum-known-did : tie.Need-enum-known-did
 enum-known-did c = search needs
 
 is-load-requires : tie.Need-is-load-requires
-is-load-requires c κs = search needs
+is-load-requires c κs = tt
 
 returns : tie.Need-returns
 returns c =

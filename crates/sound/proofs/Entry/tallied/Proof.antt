@@ -49,13 +49,13 @@ enum-known-did : tie.Need-enum-known-did
 enum-known-did c = search needs
 
 own-cycles-requires : tie.Need-own-cycles-requires
-own-cycles-requires c κs = search needs
+own-cycles-requires c κs = tt
 
 add-cycles : tie.Need-add-cycles
 add-cycles c = omega (arith, own-bound (c .before .before .before .before .before .args .self .did))
 
 is-load-requires : tie.Need-is-load-requires
-is-load-requires c κs = search needs
+is-load-requires c κs = tt
 
 returns : tie.Need-returns
 returns c =
