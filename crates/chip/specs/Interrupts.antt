@@ -1,61 +1,83 @@
 -- 01, "Interrupts": acknowledge.
 use mathlib.Core.Path.{_≡_}
-use mathlib.Core.Bool.{Bool, true, false}
-use Prim.Native.Nat.{ℕ, _+_, _*_, _/_}
+use mathlib.Core.Bool.{Bool, false, not}
+use Prim.Native.Nat.{ℕ, _+_, _-_, _*_, _/_}
+use lib.Dec.{eqb, leb}
 use lib.ListN.{set}
-use Rattle.words.specs.Choice.{if, bit}
+use Rattle.words.specs.Choice.{if, both, either, bit}
 use Rattle.sound.specs.declared.Channel.{Channel}
+use Rattle.sound.specs.declared.Sound.{Sound}
 use Rattle.sound.specs.Channels.{withFlags}
 use Rattle.sound.specs.Line.{channelOf}
 use Rattle.chip.specs.declared.Chip.{Chip}
+use Rattle.chip.specs.declared.Interrupts.{Interrupts}
 use Rattle.chip.specs.declared.Acknowledged.{Acknowledged}
-use Rattle.chip.specs.State.{withInterrupts, withChannels}
+use Rattle.chip.specs.State.{withInterrupts, withSound}
 use Rattle.chip.specs.Contracts.{done, noInterrupt, served}
 
 -- channel n's interrupt waits
-abbrev pub waiting : Chip → ℕ → Bool
-waiting c n = channelOf (c .sound .channels) n .interrupt
+abbrev pub waiting : Sound → ℕ → Bool
+waiting s n = channelOf (s .channels) n .interrupt
 
--- by the source that is served: raster first, then channels 2, 1, 0; the last if nothing waits
-abbrev pub bySource : {A : Type 0} → Chip → A → A → A → A → A → A
-bySource c raster two one zero none =
-    if (c .interrupts .raster) raster (if (waiting c 2) two (if (waiting c 1) one (if (waiting c 0) zero none)))
+-- a source is known by what it adds to the vector: 6 for raster, 4, 2, 0 for channels 0, 1, 2
+abbrev pub ofRaster : ℕ
+ofRaster = 6
+
+abbrev pub ofChannel : ℕ → ℕ
+ofChannel n = 4 - 2 * n
+
+-- the channel that is known by a number below raster's
+abbrev pub channelFor : ℕ → ℕ
+channelFor source = 2 - source / 2
+
+-- where nothing waits
+abbrev pub nobody : ℕ
+nobody = 8
+
+-- the source that is served: raster first, then channels 2, 1, 0
+unfoldable pub sourceOf : Bool → Sound → ℕ
+sourceOf raster s =
+    if raster ofRaster
+    (if (waiting s 2) (ofChannel 2) (if (waiting s 1) (ofChannel 1) (if (waiting s 0) (ofChannel 0) nobody)))
+
+abbrev pub sourceOn : Chip → ℕ
+sourceOn c = sourceOf (c .interrupts .raster) (c .sound)
 
 unfoldable pub acknowledgeAnswer : Chip → ℕ
-acknowledgeAnswer c = bySource c done done done done noInterrupt
+acknowledgeAnswer c = if (eqb (sourceOn c) nobody) noInterrupt done
 
--- the top five bits of IVR, plus the source's number
+-- the top five bits of IVR, and what the source adds
 unfoldable pub vectorOf : ℕ → ℕ → ℕ
 vectorOf ivr source = ivr / 8 * 8 + source
 
--- 6 for raster, 4, 2, 0 for channels 0, 1, 2
 unfoldable pub vectorOn : Chip → ℕ
-vectorOn c =
-    bySource c (vectorOf (c .interrupts .ivr) 6) (vectorOf (c .interrupts .ivr) 0) (vectorOf (c .interrupts .ivr) 2)
-    (vectorOf (c .interrupts .ivr) 4) 0
+vectorOn c = vectorOf (c .interrupts .ivr) (sourceOn c)
 
--- raster is cleared, and DCSR shows that the last acknowledge was raster
-unfoldable pub rasterServed : Chip → Chip
-rasterServed c = withInterrupts c (record { raster = false; «last_raster» = true; ivr = c .interrupts .ivr })
+-- raster is cleared if it is served, and DCSR shows whether the last acknowledge was raster
+abbrev pub interruptsServed : Interrupts → ℕ → Interrupts
+interruptsServed i source =
+    record {
+      raster = both (i .raster) (not (eqb source ofRaster));
+      «last_raster» = eqb source ofRaster;
+      ivr = i .ivr;
+    }
 
--- the last acknowledge was not raster
-abbrev pub notRaster : Chip → Chip
-notRaster c =
-    withInterrupts c
-    (record { raster = c .interrupts .raster; «last_raster» = false; ivr = c .interrupts .ivr })
-
--- a channel's interrupt cleared
+-- a channel with its interrupt cleared, and the sound state with channel n's
 abbrev pub cleared : Channel → Channel
 cleared d = withFlags d (d .enabled) false
 
--- a channel's interrupt is cleared only if IVR bit 0 is 0
-unfoldable pub channelServed : Chip → ℕ → Chip
-channelServed c n =
-    if (bit 0 (c .interrupts .ivr)) (notRaster c)
-    (withChannels (notRaster c) (set (c .sound .channels) n (cleared (channelOf (c .sound .channels) n))))
+abbrev pub withCleared : Sound → ℕ → Sound
+withCleared s n = record { channels = set (s .channels) n (cleared (channelOf (s .channels) n)); psg = s .psg }
 
+-- a channel's interrupt is cleared only if IVR bit 0 is 0
+unfoldable pub soundServed : Sound → ℕ → ℕ → Sound
+soundServed s ivr source = if (either (leb ofRaster source) (bit 0 ivr)) s (withCleared s (channelFor source))
+
+-- the chip after a served acknowledge
 unfoldable pub acknowledged : Chip → Chip
-acknowledged c = bySource c (rasterServed c) (channelServed c 2) (channelServed c 1) (channelServed c 0) c
+acknowledged c =
+    withSound (withInterrupts c (interruptsServed (c .interrupts) (sourceOn c)))
+    (soundServed (c .sound) (c .interrupts .ivr) (sourceOn c))
 
 -- what acknowledge promises
 pub record Acknowledges (c : Chip) (r : Acknowledged) : Type 0 where

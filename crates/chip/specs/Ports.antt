@@ -1,12 +1,13 @@
 -- 01, "Lock and ports": the BCxx write, the 6845 data write, the 7Fxx write.
 use mathlib.Core.Path.{_≡_}
-use mathlib.Core.Bool.{Bool, false}
+use mathlib.Core.Bool.{Bool, not}
 use mathlib.Core.List.{List, _∷_}
 use Prim.Native.Nat.{ℕ, _/_, _%_}
 use lib.Dec.{eqb}
 use Rattle.words.specs.Choice.{if, both, either, bit}
 use Rattle.lock.specs.Machine.{fed, Tracks}
 use Rattle.crtc.specs.Registers.{hasRegister, written}
+use Rattle.chip.specs.declared.Gate.{Gate}
 use Rattle.chip.specs.declared.Chip.{Chip}
 use Rattle.chip.specs.declared.Answered.{Answered}
 use Rattle.chip.specs.State.{withLock, withGate, withCrtc, withRegisters, withRaster}
@@ -37,17 +38,25 @@ abbrev pub top : ℕ → ℕ
 top b = b / 32
 
 -- 100 and 101 are served, others not
+abbrev pub gateServed : ℕ → Bool
+gateServed b = either (eqb (top b) 4) (eqb (top b) 5)
+
 unfoldable pub gateAnswer : ℕ → ℕ
-gateAnswer b = if (either (eqb (top b) 4) (eqb (top b) 5)) done nothingThere
+gateAnswer b = if (gateServed b) done nothingThere
 
--- 101 when unlocked maps the page in if bits 4-3 are 11, and out otherwise
-unfoldable pub pageMapped : Chip → ℕ → Chip
-pageMapped c b = withGate c (record { mode = c .gate .mode; mapped = eqb (b / 8 % 4) 3 })
+-- 101 when unlocked is for the page; 100, or 101 when locked, is for the mode
+abbrev pub forPage : Chip → ℕ → Bool
+forPage c b = both (eqb (top b) 5) (c .lock .unlocked)
 
--- 100, or 101 when locked: bits 1-0 are the mode, and bit 4 clears a waiting raster interrupt
-unfoldable pub modeSet : Chip → ℕ → Chip
-modeSet c b =
-    withRaster (withGate c (record { mode = b % 4; mapped = c .gate .mapped })) (if (bit 4 b) false (c .interrupts .raster))
+-- for the page: it is mapped in if bits 4-3 are 11, and out otherwise; for the mode: it is bits 1-0
+unfoldable pub gateAfter : Gate → Bool → ℕ → Gate
+gateAfter g page b =
+    if page (record { mode = g .mode; mapped = eqb (b / 8 % 4) 3 }) (record { mode = b % 4; mapped = g .mapped })
+
+-- a waiting raster interrupt stays, unless the byte is for the mode and its bit 4 clears it
+abbrev pub rasterAfter : Bool → Bool → ℕ → Bool
+rasterAfter raster page b = both raster (either page (not (bit 4 b)))
 
 unfoldable pub gateWritten : Chip → ℕ → Chip
-gateWritten c b = if (both (eqb (top b) 5) (c .lock .unlocked)) (pageMapped c b) (modeSet c b)
+gateWritten c b =
+    withRaster (withGate c (gateAfter (c .gate) (forPage c b) b)) (rasterAfter (c .interrupts .raster) (forPage c b) b)

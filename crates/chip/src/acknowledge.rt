@@ -3,42 +3,34 @@ use crate::Acknowledged;
 use crate::Chip;
 use crate::DONE;
 use crate::NO_INTERRUPT;
+use sound::Sound;
 ghost use mathlib.Core.Path.{_≡_};
-ghost use Prim.Native.Nat.{_<_, _≤_};
-ghost use Rattle.chip.specs.Interrupts.{rasterServed, channelServed, vectorOf, Acknowledges};
+ghost use Prim.Native.Nat.{_<_};
+ghost use Rattle.chip.specs.Interrupts.{sourceOf, vectorOf, soundServed, Acknowledges};
 
-// The raster interrupt is served: it is cleared.
-fn raster_served(chip: Chip) -> Chip
-    ensures { λ r. ⌜ r ≡ rasterServed chip ⌝ }
-{
-    let mut c = chip;
-    let mut interrupts = chip.interrupts;
-    interrupts.raster = false;
-    interrupts.last_raster = true;
-    c.interrupts = interrupts;
-    c
-}
+// A source is known by what it adds to the vector: 4, 2 and 0 are channels 0, 1 and 2, this is raster;
+const RASTER: u8 = 6;
 
-// A channel's interrupt is served: it is cleared if IVR bit 0 is 0.
-fn channel_served(chip: Chip, n: usize) -> Chip
-    requires { ⌜ n < 3 ⌝ }
-    ensures { λ r. ⌜ r ≡ channelServed chip n ⌝ }
+// nothing waits.
+const NOBODY: u8 = 8;
+
+// The source that is served: raster first, then channels 2, 1 and 0.
+fn source_of(raster: bool, sound: Sound) -> u8
+    ensures { λ r. ⌜ r ≡ sourceOf raster sound ⌝ }
 {
-    let mut c = chip;
-    let mut interrupts = chip.interrupts;
-    interrupts.last_raster = false;
-    c.interrupts = interrupts;
-    if chip.interrupts.ivr % 2 == 1 {
-        return c;
+    if raster {
+        return RASTER;
     }
-    let mut sound = chip.sound;
-    let mut channels = sound.channels;
-    let mut channel = channels[n];
-    channel.interrupt = false;
-    channels[n] = channel;
-    sound.channels = channels;
-    c.sound = sound;
-    c
+    if sound.channels[2].interrupt {
+        return 0;
+    }
+    if sound.channels[1].interrupt {
+        return 2;
+    }
+    if sound.channels[0].interrupt {
+        return 4;
+    }
+    NOBODY
 }
 
 // The vector: the top five bits of IVR, and what tells the source.
@@ -49,47 +41,41 @@ fn vector_of(ivr: u8, source: u8) -> u8
     ivr / 8 * 8 + source
 }
 
-// Acknowledge: raster first, then channels 2, 1 and 0.
-pub fn acknowledge(chip: Chip) -> Acknowledged
+// A channel that is served: its interrupt is cleared if IVR bit 0 is 0.
+fn sound_served(mut sound: Sound, ivr: u8, source: u8) -> Sound
+    ensures { λ r. ⌜ r ≡ soundServed sound ivr source ⌝ }
+{
+    if source >= RASTER {
+        return sound;
+    }
+    if ivr % 2 == 1 {
+        return sound;
+    }
+    let n = 2 - source as usize / 2;
+    sound.channels[n].interrupt = false;
+    sound
+}
+
+// Acknowledge: a source is served and gives the vector. Raster comes first, so afterwards it waits no longer.
+pub fn acknowledge(mut chip: Chip) -> Acknowledged
     ensures { λ r. ⌜ Acknowledges chip r ⌝ }
 {
-    let ivr = chip.interrupts.ivr;
-    let sound = chip.sound;
-    let channels = sound.channels;
-    if chip.interrupts.raster {
+    let source = source_of(chip.interrupts.raster, chip.sound);
+    if source == NOBODY {
         return Acknowledged {
-            answer: DONE,
-            chip: raster_served(chip),
-            vector: vector_of(ivr, 6),
+            answer: NO_INTERRUPT,
+            chip,
+            vector: 0,
         };
     }
-    let two = channels[2];
-    if two.interrupt {
-        return Acknowledged {
-            answer: DONE,
-            chip: channel_served(chip, 2),
-            vector: vector_of(ivr, 0),
-        };
-    }
-    let one = channels[1];
-    if one.interrupt {
-        return Acknowledged {
-            answer: DONE,
-            chip: channel_served(chip, 1),
-            vector: vector_of(ivr, 2),
-        };
-    }
-    let zero = channels[0];
-    if zero.interrupt {
-        return Acknowledged {
-            answer: DONE,
-            chip: channel_served(chip, 0),
-            vector: vector_of(ivr, 4),
-        };
-    }
+    let vector = vector_of(chip.interrupts.ivr, source);
+    chip.sound = sound_served(chip.sound, chip.interrupts.ivr, source);
+    let raster = source == RASTER;
+    chip.interrupts.raster = false;
+    chip.interrupts.last_raster = raster;
     Acknowledged {
-        answer: NO_INTERRUPT,
+        answer: DONE,
         chip,
-        vector: 0,
+        vector,
     }
 }

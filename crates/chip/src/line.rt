@@ -7,7 +7,7 @@ use sound::Did;
 use sound::Entry;
 use sound::Report;
 ghost use mathlib.Core.Path.{_≡_};
-ghost use Rattle.chip.specs.Step.{idleReport, counted, Steps};
+ghost use Rattle.chip.specs.Step.{idleReport, Steps};
 
 // The report of a line that wasn't played: no cycles, each channel sat out.
 fn idle_report() -> Report
@@ -17,29 +17,8 @@ fn idle_report() -> Report
     Report { cycles: 0, entries }
 }
 
-// Raster compare, split compare and counters.
-fn counted(chip: Chip) -> Chip
-    ensures { λ r. ⌜ r ≡ counted chip ⌝ }
-{
-    let mut c = chip;
-    let mut crtc = chip.crtc;
-    let registers = crtc.registers;
-    let before = crtc.counters;
-    let line = before.line(registers, chip.video);
-    let counters = line.counters;
-    crtc.counters = counters;
-    c.crtc = crtc;
-    if !line.raster {
-        return c;
-    }
-    let mut interrupts = chip.interrupts;
-    interrupts.raster = true;
-    c.interrupts = interrupts;
-    c
-}
-
 // One line: sound, raster compare, split compare, counters.
-pub fn step(chip: Chip, ram: &[u8]) -> Stepped
+pub fn step(mut chip: Chip, ram: &[u8]) -> Stepped
     ensures { λ r. ⌜ Steps chip (now (ram .entry)) r ⌝ }
 {
     if ram.len() != 65536 {
@@ -49,15 +28,20 @@ pub fn step(chip: Chip, ram: &[u8]) -> Stepped
             report: idle_report(),
         };
     }
-    let before = chip.sound;
-    let played = sound::sound_line(before, ram);
+    let played = sound::sound_line(chip.sound, ram);
     let sound = played.sound;
+    chip.sound = sound;
+    let mut crtc = chip.crtc;
+    let line = crtc.counters.line(crtc.registers, chip.video);
+    let counters = line.counters;
+    crtc.counters = counters;
+    chip.crtc = crtc;
+    let raster = line.raster | chip.interrupts.raster;
+    chip.interrupts.raster = raster;
     let report = played.report;
-    let mut c = chip;
-    c.sound = sound;
     Stepped {
         answer: DONE,
-        chip: counted(c),
+        chip,
         report,
     }
 }

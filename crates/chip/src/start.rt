@@ -11,13 +11,12 @@ use picture::sprite::Sprite;
 use sound::Channel;
 use sound::Sound;
 ghost use mathlib.Core.Path.{_≡_};
-ghost use Rattle.chip.specs.Reset.{resetCrtc, resetVideo, resetSound, Reset};
+ghost use Rattle.chip.specs.Reset.{resetSound, Reset};
 
 // The 6845 with all registers and counters 0.
-fn reset_crtc() -> Crtc
-    ensures { λ r. ⌜ r ≡ resetCrtc ⌝ }
-{
-    let registers = Registers {
+const CRTC: Crtc = Crtc {
+    selected: 0,
+    registers: Registers {
         r1: 0,
         r4: 0,
         r5: 0,
@@ -25,34 +24,25 @@ fn reset_crtc() -> Crtc
         r9: 0,
         r12: 0,
         r13: 0,
-    };
-    let counters = Counters {
+    },
+    counters: Counters {
         vc: 0,
         rc: 0,
         adjust: false,
         address: 0,
         held: false,
         split: 0,
-    };
-    Crtc {
-        selected: 0,
-        registers,
-        counters,
-    }
-}
+    },
+};
 
 // PRI, split and SSCR 0.
-fn reset_video() -> Video
-    ensures { λ r. ⌜ r ≡ resetVideo ⌝ }
-{
-    Video {
-        pri: 0,
-        split_line: 0,
-        split_high: 0,
-        split_low: 0,
-        sscr: 0,
-    }
-}
+const VIDEO: Video = Video {
+    pri: 0,
+    split_line: 0,
+    split_high: 0,
+    split_low: 0,
+    sscr: 0,
+};
 
 // All channels off and the PSG 0.
 fn reset_sound() -> Sound
@@ -77,10 +67,8 @@ fn reset_sound() -> Sound
 pub fn reset() -> Chip
     ensures { λ r. ⌜ Reset r ⌝ }
 {
-    let lock = Lock::new();
-    let crtc = reset_crtc();
-    let video = reset_video();
     let sound = reset_sound();
+    let crtc = CRTC;
     let sprite = Sprite {
         x: 0,
         y: 0,
@@ -88,6 +76,7 @@ pub fn reset() -> Chip
     };
     let sprites = [sprite; 16];
     let palette = [0u8; 64];
+    let lock = Lock::new();
     Chip {
         lock,
         gate: Gate {
@@ -95,7 +84,7 @@ pub fn reset() -> Chip
             mapped: false,
         },
         crtc,
-        video,
+        video: VIDEO,
         sprites,
         palette,
         sound,

@@ -2,7 +2,7 @@
 use native.Mathlib.Omega.{arith}
 use borrow.Author.Tests.{ne-eqb}
 use Rattle.sound.proofs.Laws.{line-cycles}
-use Rattle.chip.specs.Step.{stepAnswer, idleReport, stepped}
+use Rattle.chip.specs.Step.{stepAnswer, idleReport, counted, stepped}
 use borrow.Author.Needs.{needs}
 use Rattle.chip.proofs.line.step.Statement.{statement}
 use Rattle.chip.proofs.line.step.Tie as tie
@@ -24,22 +24,22 @@ returns c =
 sound-line-requires : tie.Need-sound-line-requires
 sound-line-requires c κs = search needs
 
-counted-requires : tie.Need-counted-requires
-counted-requires c κs = search needs
+line-requires : tie.Need-line-requires
+line-requires c κs = search needs
 
 returns-2 : tie.Need-returns-2
-unfolding stepAnswer stepped
+unfolding stepAnswer stepped counted
 returns-2 c =
-    let kept = c .before .before .before .before .before .if1 .left in
-    let sounded = c .before .before .before .sound-line .ensures in
+    let kept = c .before .before .before .before .before .before .before .before .before .if1 .left in
+    let sounded = c .before .before .before .before .before .before .before .before .sound-line .ensures in
+    let line = c .before .before .before .before .before .line .ensures in
     record {
       answer = simp kept;
-      chip = simp (kept, c .counted .ensures, sounded);
+      chip = simp (kept, sounded, line);
       report = simp (kept, sounded);
       bound = simp sounded (line-cycles _ _);
     }
 
 pub step-spec : {M : Type 1} → statement M
 step-spec =
-    tie.close
-    (tie.spec idle-report-requires returns sound-line-requires counted-requires returns-2)
+    tie.close (tie.spec idle-report-requires returns sound-line-requires line-requires returns-2)

@@ -1,55 +1,27 @@
--- `chip::ports::write_7f`: by the top three bits and the lock.
-use borrow.Author.Tests.{ne-eqb}
-use Rattle.chip.specs.Ports.{gateAnswer, gateWritten}
+-- `chip::ports::write_7f`: refused by the top three bits, else by the lock.
+use mathlib.Core.Path.{_≡_}
+use mathlib.Core.Bool.{true, false}
+use borrow.Author.Tests.{not-true, not-false}
+use Rattle.chip.specs.Ports.{gateServed, gateAnswer, gateWritten}
 use borrow.Author.Needs.{needs}
 use Rattle.chip.proofs.ports.write_7f.Statement.{statement}
 use Rattle.chip.proofs.ports.write_7f.Tie as tie
 
-mode-set-requires : tie.Need-mode-set-requires
-mode-set-requires c κs = search needs
-
 returns : tie.Need-returns
-unfolding gateAnswer gateWritten
-returns c = record { answer = simp (c .before .if1 .taken); chip = simp (c .before .if1 .taken, c .mode-set .ensures) }
+unfolding gateAnswer
+returns c =
+    let refused : gateServed (c .before .args .byte) ≡ false = not-true _ (c .if1 .taken) in
+    record { answer = simp refused; chip = simp refused }
+
+gate-after-requires : tie.Need-gate-after-requires
+gate-after-requires c κs = search needs
 
 returns-2 : tie.Need-returns-2
 unfolding gateAnswer gateWritten
 returns-2 c =
-    record {
-      answer = simp (ne-eqb _ _ (c .before .if1 .left), ne-eqb _ _ (c .if2 .taken));
-      chip = simp (ne-eqb _ _ (c .before .if1 .left), ne-eqb _ _ (c .if2 .taken));
-    }
-
-page-mapped-requires : tie.Need-page-mapped-requires
-page-mapped-requires c κs = search needs
-
-returns-3 : tie.Need-returns-3
-unfolding gateAnswer gateWritten
-returns-3 c =
-    record {
-      answer = simp (c .before .before .if2 .left);
-      chip = simp (c .before .before .if2 .left, c .before .if3 .taken, c .page-mapped .ensures);
-    }
-
-mode-set-requires-2 : tie.Need-mode-set-requires-2
-mode-set-requires-2 c κs = search needs
-
-returns-4 : tie.Need-returns-4
-unfolding gateAnswer gateWritten
-returns-4 c =
-    record {
-      answer = simp (c .before .before .if2 .left);
-      chip = simp (c .before .before .if2 .left, c .before .if3 .left, c .mode-set2 .ensures);
-    }
+    let kept : gateServed (c .before .before .before .before .before .args .byte) ≡ true =
+    not-false _ (c .before .before .before .before .if1 .left) in
+    record { answer = simp kept; chip = simp (kept, c .before .gate-after .ensures) }
 
 pub write-7f-spec : {M : Type 1} → statement M
-write-7f-spec =
-    tie.close
-    (tie.spec
-    mode-set-requires
-    returns
-    returns-2
-    page-mapped-requires
-    returns-3
-    mode-set-requires-2
-    returns-4)
+write-7f-spec = tie.close (tie.spec returns gate-after-requires returns-2)

@@ -12,8 +12,8 @@ returns : tie.Need-returns
 unfolding selected
 returns c =
     record {
-      call = record { answer = refl; chip = simp (c .before .feed .ensures .lock) };
-      tracks = c .before .feed .ensures .tracks;
+      call = record { answer = refl; chip = simp (c .feed .ensures .lock) };
+      tracks = c .feed .ensures .tracks;
     }
 
 pub write-bc-spec : {M : Type 1} → statement M

@@ -2,7 +2,6 @@
 use mathlib.Core.Path.{sym, _∙_}
 use borrow.Author.Tests.{not-true, not-false}
 use Rattle.chip.specs.Ports.{dataAnswer, dataWritten}
-use mathlib.Core.Path.{sym, _∙_}
 use borrow.Author.Needs.{needs}
 use Rattle.chip.proofs.ports.write_bd.Statement.{statement}
 use Rattle.chip.proofs.ports.write_bd.Tie as tie
@@ -11,10 +10,10 @@ has-register-requires : tie.Need-has-register-requires
 has-register-requires c κs = search needs
 
 returns : tie.Need-returns
-unfolding dataAnswer dataWritten
+unfolding dataAnswer
 returns c =
-    let out = sym (c .before .has-register .ensures) ∙ not-true (c .before .has-register .result) (c .if1 .taken) in
-    record { answer = simp out; chip = simp out }
+    let refused = sym (c .before .has-register .ensures) ∙ not-true (c .before .has-register .result) (c .if1 .taken) in
+    record { answer = simp refused; chip = simp refused }
 
 written-requires : tie.Need-written-requires
 written-requires c κs = search needs
