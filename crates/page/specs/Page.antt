@@ -115,6 +115,9 @@ channelWritten d Prescale b =
       mark = d .mark;
     }
 
+abbrev pub startWritten : List Channel → ℕ → ChannelRegister → ℕ → List Channel
+startWritten cs n r b = set cs n (channelWritten (channelOf cs n) r b)
+
 -- a DCSR write sets channel n's enable from bit n, and a 1 in bit 6 - n clears its interrupt
 abbrev pub controlWritten : ℕ → ℕ → Channel → Channel
 controlWritten b n d = withFlags d (bit n b) (if (bit (6 - n) b) false (d .interrupt))
@@ -131,8 +134,7 @@ registerWritten c (Palette i) b = withPalette c (set (c .palette) i (keptByte i 
 registerWritten c (VideoAt v) b = withVideo c (videoWritten (c .video) v b)
 registerWritten c Ivr b = withIvr c b
 registerWritten c Converter b = c
-registerWritten c (ChannelAt n r) b =
-    withChannels c (set (c .sound .channels) n (channelWritten (channelOf (c .sound .channels) n) r b))
+registerWritten c (ChannelAt n r) b = withChannels c (startWritten (c .sound .channels) n r b)
 registerWritten c Dcsr b = withChannels c (dcsrWritten (c .sound .channels) b)
 registerWritten c Status b = c
 registerWritten c Empty b = c

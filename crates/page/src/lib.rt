@@ -11,7 +11,9 @@ use chip::NOT_MAPPED;
 use chip::NOTHING_THERE;
 use chip::WRONG_LENGTH;
 use crtc::Video;
+use picture::sprite::Sprite;
 use sound::Channel;
+use sound::Sound;
 ghost use mathlib.Core.Path.{_≡_};
 ghost use Prim.Native.Nat.{_<_, _≤_};
 ghost use lib.ListN.{length, set, getD};
@@ -24,8 +26,7 @@ ghost use Rattle.picture.specs.Palette.{keptByte};
 ghost use Rattle.chip.specs.Contracts.{done, nothingThere};
 ghost use Rattle.chip.specs.Reset.{offSprite};
 ghost use Rattle.page.specs.Address.{Within};
-ghost use Rattle.chip.specs.State.{withSprites, withPalette, withVideo, withChannels};
-ghost use Rattle.page.specs.Page.{writable, pageAnswer, readAnswer, writeAnswer, spriteWritten, videoWritten, channelWritten, controlWritten, dcsrWritten, registerWritten, Writes, flag, Flagged, dcsr, registerRead, Reads};
+ghost use Rattle.page.specs.Page.{writable, pageAnswer, readAnswer, writeAnswer, spriteWritten, videoWritten, channelWritten, startWritten, dcsrWritten, registerWritten, Writes, flag, Flagged, dcsr, registerRead, Reads};
 
 // A page read's answer: the number, the chip, the byte.
 #[repr(C)]
@@ -86,29 +87,25 @@ fn write_answer(chip: Chip, size: usize, address: u16, register: Register) -> u8
     DONE
 }
 
-// The chip with one sprite's register written.
-fn sprite_written(chip: Chip, n: usize, place: u8, byte: u8) -> Chip
+// The sprites with one register written.
+fn sprite_written(sprites: [Sprite; 16], n: usize, place: u8, byte: u8) -> [Sprite; 16]
     requires { ⌜ n < 16 ⌝ }
-    ensures { λ r. ⌜ r ≡ withSprites chip (spriteWritten (chip .sprites) n place byte) ⌝ }
+    ensures { λ r. ⌜ r ≡ spriteWritten sprites n place byte ⌝ }
 {
-    let mut c = chip;
-    let mut sprites = chip.sprites;
-    let sprite = sprites[n];
-    sprites[n] = sprite.written(place, byte);
-    c.sprites = sprites;
-    c
+    let mut all = sprites;
+    let sprite = all[n];
+    all[n] = sprite.written(place, byte);
+    all
 }
 
-// The chip with one byte of the palette written.
-fn palette_written(chip: Chip, i: usize, byte: u8) -> Chip
+// The palette with one byte written.
+fn palette_written(palette: [u8; 64], i: usize, byte: u8) -> [u8; 64]
     requires { ⌜ i < 64 ⌝ }
-    ensures { λ r. ⌜ r ≡ withPalette chip (set (chip .palette) i (keptByte i byte)) ⌝ }
+    ensures { λ r. ⌜ r ≡ set palette i (keptByte i byte) ⌝ }
 {
-    let mut c = chip;
-    let mut palette = chip.palette;
-    palette[i] = picture::palette::kept_byte(i, byte);
-    c.palette = palette;
-    c
+    let mut all = palette;
+    all[i] = picture::palette::kept_byte(i, byte);
+    all
 }
 
 // PRI, split and SSCR with one of them written.
@@ -174,67 +171,69 @@ fn control_written(channel: Channel, enable: bool, clear: bool) -> Channel
     c
 }
 
-// The chip with other channels.
-fn with_channels(chip: Chip, channels: [Channel; 3]) -> Chip
-    ensures { λ r. ⌜ r ≡ withChannels chip channels ⌝ }
-{
-    let mut c = chip;
-    let mut sound = chip.sound;
-    sound.channels = channels;
-    c.sound = sound;
-    c
-}
-
-// The chip with one channel's register written.
-fn start_written(chip: Chip, n: usize, which: ChannelRegister, byte: u8) -> Chip
+// The sound state with one start address or prescale written.
+fn start_written(mut sound: Sound, n: usize, which: ChannelRegister, byte: u8) -> Sound
     requires { ⌜ n < 3 ⌝ }
-    ensures { λ r. ⌜ r ≡ registerWritten chip (Register.Channel n which) byte ⌝ }
+    ensures { λ r. ⌜ r ≡ record { channels = startWritten (sound .channels) n which byte; psg = sound .psg } ⌝ }
 {
-    let sound = chip.sound;
     let mut channels = sound.channels;
     let channel = channels[n];
     channels[n] = channel_written(channel, which, byte);
-    with_channels(chip, channels)
+    sound.channels = channels;
+    sound
 }
 
-// The chip with DCSR written.
-fn dcsr_written(chip: Chip, byte: u8) -> Chip
-    ensures { λ r. ⌜ r ≡ registerWritten chip Register.Dcsr byte ⌝ }
+// The sound state with DCSR written.
+fn dcsr_written(mut sound: Sound, byte: u8) -> Sound
+    ensures { λ r. ⌜ r ≡ record { channels = dcsrWritten (sound .channels) byte; psg = sound .psg } ⌝ }
 {
-    let sound = chip.sound;
     let channels = sound.channels;
     let zero = control_written(channels[0], byte % 2 == 1, byte / 64 % 2 == 1);
     let one = control_written(channels[1], byte / 2 % 2 == 1, byte / 32 % 2 == 1);
     let two = control_written(channels[2], byte / 4 % 2 == 1, byte / 16 % 2 == 1);
-    with_channels(chip, [zero, one, two])
+    let written = [zero, one, two];
+    sound.channels = written;
+    sound
 }
 
 // The chip with a register written. Pixels are not in the chip.
-fn register_written(chip: Chip, register: Register, byte: u8) -> Chip
+fn register_written(mut chip: Chip, register: Register, byte: u8) -> Chip
     requires { ⌜ Within register ⌝ }
     ensures { λ r. ⌜ r ≡ registerWritten chip register byte ⌝ }
 {
-    let mut c = chip;
     match register {
-        Register::Pixel(_) => c,
-        Register::Sprite(n, place) => sprite_written(chip, n, place, byte),
-        Register::Palette(i) => palette_written(chip, i, byte),
+        Register::Pixel(_) => chip,
+        Register::Sprite(n, place) => {
+            let before = chip.sprites;
+            let sprites = sprite_written(before, n, place, byte);
+            chip.sprites = sprites;
+            chip
+        }
+        Register::Palette(i) => {
+            let before = chip.palette;
+            let palette = palette_written(before, i, byte);
+            chip.palette = palette;
+            chip
+        }
         Register::Video(which) => {
-            let video = video_written(chip.video, which, byte);
-            c.video = video;
-            c
+            chip.video = video_written(chip.video, which, byte);
+            chip
         }
         Register::Ivr => {
-            let mut interrupts = chip.interrupts;
-            interrupts.ivr = byte;
-            c.interrupts = interrupts;
-            c
+            chip.interrupts.ivr = byte;
+            chip
         }
-        Register::Converter => c,
-        Register::Channel(n, which) => start_written(chip, n, which, byte),
-        Register::Dcsr => dcsr_written(chip, byte),
-        Register::Status => c,
-        Register::Empty => c,
+        Register::Converter => chip,
+        Register::Channel(n, which) => {
+            chip.sound = start_written(chip.sound, n, which, byte);
+            chip
+        }
+        Register::Dcsr => {
+            chip.sound = dcsr_written(chip.sound, byte);
+            chip
+        }
+        Register::Status => chip,
+        Register::Empty => chip,
     }
 }
 

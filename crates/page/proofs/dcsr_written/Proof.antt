@@ -1,6 +1,6 @@
 -- `page::dcsr_written`: each channel by its own two bits.
-use native.Mathlib.Nat.{div-one}
 use borrow.Author.Needs.{needs}
+use native.Mathlib.Nat.{div-one}
 use Rattle.page.proofs.dcsr_written.Statement.{statement}
 use Rattle.page.proofs.dcsr_written.Tie as tie
 
@@ -22,16 +22,12 @@ array-copy-out-control-written-3 c = search needs
 control-written-requires-3 : tie.Need-control-written-requires-3
 control-written-requires-3 c κs = search needs
 
-with-channels-requires : tie.Need-with-channels-requires
-with-channels-requires c κs = search needs
-
 returns : tie.Need-returns
 returns c =
     simp (
-      c .with-channels .ensures,
-      c .before .control-written3 .ensures,
-      c .before .before .before .control-written2 .ensures,
-      c .before .before .before .before .before .control-written .ensures,
+      c .control-written3 .ensures,
+      c .before .before .control-written2 .ensures,
+      c .before .before .before .before .control-written .ensures,
       div-one,
     )
 
@@ -45,5 +41,4 @@ dcsr-written-spec =
     control-written-requires-2
     array-copy-out-control-written-3
     control-written-requires-3
-    with-channels-requires
     returns)

@@ -10,13 +10,13 @@ enum-known-register : tie.Need-enum-known-register
 enum-known-register c = search needs
 
 sprite-written-requires : tie.Need-sprite-written-requires
-sprite-written-requires c κs = rw (c .before .register .given .1) at (c .before .before .before .pre)
+sprite-written-requires c κs = rw (c .before .before .register .given .1) at (c .before .before .before .before .pre)
 
 enum-known-register-2 : tie.Need-enum-known-register-2
 enum-known-register-2 c = search needs
 
 palette-written-requires : tie.Need-palette-written-requires
-palette-written-requires c κs = rw (c .before .register2 .given .1) at (c .before .before .before .pre)
+palette-written-requires c κs = rw (c .before .before .register2 .given .1) at (c .before .before .before .before .pre)
 
 enum-known-register-3 : tie.Need-enum-known-register-3
 enum-known-register-3 c = search needs
@@ -52,10 +52,10 @@ returns : tie.Need-returns
 returns c = simp (c .enum-told .given .1)
 
 returns-2 : tie.Need-returns-2
-returns-2 c = simp (c .before .before .register .given .1, c .sprite-written .ensures)
+returns-2 c = simp (c .before .before .before .register .given .1, c .sprite-written .ensures)
 
 returns-3 : tie.Need-returns-3
-returns-3 c = simp (c .before .before .register2 .given .1, c .palette-written .ensures)
+returns-3 c = simp (c .before .before .before .register2 .given .1, c .palette-written .ensures)
 
 returns-4 : tie.Need-returns-4
 returns-4 c = simp (c .before .before .register3 .given .1, c .video-written .ensures)

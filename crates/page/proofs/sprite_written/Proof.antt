@@ -12,11 +12,11 @@ array-copy-out-sprite c = search needs
 written-requires : tie.Need-written-requires
 written-requires c κs = search needs
 
-mul-sprites : tie.Need-mul-sprites
-mul-sprites c = search needs
+mul-all : tie.Need-mul-all
+mul-all c = search needs
 
-array-set-from-sprites : tie.Need-array-set-from-sprites
-array-set-from-sprites c = search needs
+array-set-from-all : tie.Need-array-set-from-all
+array-set-from-all c = search needs
 
 returns : tie.Need-returns
 returns c = simp (c .written .ensures)
@@ -24,10 +24,4 @@ returns c = simp (c .written .ensures)
 pub sprite-written-spec : {M : Type 1} → statement M
 sprite-written-spec =
     tie.close
-    (tie.spec
-    mul-sprite
-    array-copy-out-sprite
-    written-requires
-    mul-sprites
-    array-set-from-sprites
-    returns)
+    (tie.spec mul-sprite array-copy-out-sprite written-requires mul-all array-set-from-all returns)

@@ -18,11 +18,8 @@ mul-channels c = search needs
 array-set-from-channels : tie.Need-array-set-from-channels
 array-set-from-channels c = search needs
 
-with-channels-requires : tie.Need-with-channels-requires
-with-channels-requires c κs = search needs
-
 returns : tie.Need-returns
-returns c = simp (c .with-channels .ensures, c .before .channel-written .ensures)
+returns c = simp (c .channel-written .ensures)
 
 pub start-written-spec : {M : Type 1} → statement M
 start-written-spec =
@@ -33,7 +30,4 @@ start-written-spec =
     channel-written-requires
     mul-channels
     array-set-from-channels
-    with-channels-requires
     returns)
-
--- x
