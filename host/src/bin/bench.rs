@@ -42,8 +42,10 @@ fn lent() -> Lent {
 }
 
 /// The writes that set either of the two up: unlocked and mapped, mode 1, 40 characters, 25 rows, so many sprites on every line.
-fn set_up(sprites: u16, mut port: impl FnMut(char, u8), mut page: impl FnMut(u16, u8)) {
-    KEY.iter().for_each(|&b| port('B', b));
+fn set_up(sprites: u16, mut port: impl FnMut(char, u8) -> u8, mut page: impl FnMut(u16, u8)) {
+    for b in KEY {
+        port('B', b);
+    }
     port('G', 0xb8);
     for (register, value) in [(1, 40), (4, 38), (6, 39), (9, 7), (12, 0x30)] {
         port('B', register);
@@ -58,42 +60,62 @@ fn set_up(sprites: u16, mut port: impl FnMut(char, u8), mut page: impl FnMut(u16
     page(0x6c0f, 7);
 }
 
-fn core_chip(sprites: u16) -> Chip {
-    let mut chip = Chip::new();
-    let mut store = vec![0; 4096];
-    let mut calls = Vec::new();
-    let pages = std::cell::RefCell::new(Vec::new());
-    set_up(sprites, |op, v| calls.push((op, v)), |a, v| pages.borrow_mut().push((a, v)));
-    for (op, v) in calls {
-        match op {
-            'B' => chip.write_bc(v),
-            'D' => chip.write_bd(v),
-            _ => chip.write_7f(v),
-        };
-    }
-    for (a, v) in pages.into_inner() {
-        assert_eq!(chip.page_write(&mut store, a, v), 0);
-    }
-    chip
+/// A machine set up, and the calls of each case, written once for both: they have calls of the same names.
+macro_rules! calls_of {
+    ($made:ident, $run:ident, $machine:ident, $forecast:path) => {
+        fn $made(sprites: u16) -> $machine {
+            let mut machine = $machine::new();
+            let mut store = vec![0; 4096];
+            let mut pages = Vec::new();
+            let port = |op, value| match op {
+                'B' => machine.write_bc(value),
+                'D' => machine.write_bd(value),
+                _ => machine.write_7f(value),
+            };
+            set_up(sprites, port, |address, value| pages.push((address, value)));
+            for (address, value) in pages {
+                assert_eq!(machine.page_write(&mut store, address, value), 0);
+            }
+            machine
+        }
+
+        fn $run(case: usize, count: usize) {
+            let mut machine = $made(sprites_of(case));
+            let Lent { ram, mut store, mut line } = lent();
+            if case == 9 {
+                store.fill(0);
+            }
+            match case {
+                0 => repeat(count, |_| {
+                    black_box(machine.step(&ram));
+                }),
+                1 => repeat(count, |i| {
+                    black_box(machine.page_write(&mut store, 0x6400 + i as u16 % 64, i as u8));
+                }),
+                2 => repeat(count, |i| {
+                    black_box(machine.page_read(&store, 0x6400 + i as u16 % 64, 0));
+                }),
+                3..=5 | 9 => repeat(count, |_| {
+                    black_box(machine.draw(&ram, &store, &mut line));
+                }),
+                6 | 7 => repeat(312 * count, |_| {
+                    black_box(machine.draw(&ram, &store, &mut line));
+                    black_box(machine.step(&ram));
+                }),
+                _ => repeat(count, |_| {
+                    black_box($forecast(&ram, 0, 0));
+                }),
+            }
+            black_box((&machine, &line));
+        }
+    };
 }
 
-fn model_chip(sprites: u16) -> Model {
-    let mut model = Model::new();
-    let mut store = vec![0; 4096];
-    let mut calls = Vec::new();
-    let pages = std::cell::RefCell::new(Vec::new());
-    set_up(sprites, |op, v| calls.push((op, v)), |a, v| pages.borrow_mut().push((a, v)));
-    for (op, v) in calls {
-        match op {
-            'B' => model.write_bc(v),
-            'D' => model.write_bd(v),
-            _ => model.write_7f(v),
-        };
-    }
-    for (a, v) in pages.into_inner() {
-        assert_eq!(model.page_write(&mut store, a, v), 0);
-    }
-    model
+calls_of!(core_chip, run_core, Chip, core::forecast);
+calls_of!(model_chip, run_model, Model, model::forecast);
+
+fn repeat(count: usize, call: impl FnMut(usize)) {
+    (0..count).for_each(call);
 }
 
 fn sprites_of(case: usize) -> u16 {
@@ -102,54 +124,6 @@ fn sprites_of(case: usize) -> u16 {
         5 | 7 | 9 => 16,
         _ => 0,
     }
-}
-
-fn run_core(case: usize, count: usize) {
-    let mut chip = core_chip(sprites_of(case));
-    let Lent { ram, mut store, mut line } = lent();
-    if case == 9 {
-        store.fill(0);
-    }
-    for i in 0..count {
-        match case {
-            0 => drop(black_box(chip.step(&ram))),
-            1 => drop(black_box(chip.page_write(&mut store, 0x6400 + i as u16 % 64, i as u8))),
-            2 => drop(black_box(chip.page_read(&store, 0x6400 + i as u16 % 64, 0))),
-            3..=5 | 9 => drop(black_box(chip.draw(&ram, &store, &mut line))),
-            6 | 7 => {
-                for _ in 0..312 {
-                    black_box(chip.draw(&ram, &store, &mut line));
-                    black_box(chip.step(&ram));
-                }
-            }
-            _ => drop(black_box(core::forecast(&ram, 0, 0))),
-        }
-    }
-    black_box((&chip, &line));
-}
-
-fn run_model(case: usize, count: usize) {
-    let mut model = model_chip(sprites_of(case));
-    let Lent { ram, mut store, mut line } = lent();
-    if case == 9 {
-        store.fill(0);
-    }
-    for i in 0..count {
-        match case {
-            0 => drop(black_box(model.step(&ram))),
-            1 => drop(black_box(model.page_write(&mut store, 0x6400 + i as u16 % 64, i as u8))),
-            2 => drop(black_box(model.page_read(&store, 0x6400 + i as u16 % 64, 0))),
-            3..=5 | 9 => drop(black_box(model.draw(&ram, &store, &mut line))),
-            6 | 7 => {
-                for _ in 0..312 {
-                    black_box(model.draw(&ram, &store, &mut line));
-                    black_box(model.step(&ram));
-                }
-            }
-            _ => drop(black_box(model::forecast(&ram, 0, 0))),
-        }
-    }
-    black_box((&model, &line));
 }
 
 /// Nanoseconds a call: the least of nine runs.
