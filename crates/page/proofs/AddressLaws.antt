@@ -1,9 +1,9 @@
--- 01, "The register page": the one address where each register of a sound channel stands, and that of DCSR.
+-- 01, "The register page": what stands from each bound on, and the one address of each register of a sound channel and of DCSR.
 use mathlib.Core.Path.{_≡_, refl}
 use mathlib.Core.Bool.{Bool, true, false}
-use Prim.Native.Nat.{ℕ, _+_, _-_, _*_, _%_}
+use Prim.Native.Nat.{ℕ, _+_, _-_, _*_, _%_, _≤_}
 use native.Mathlib.Omega.{arith}
-use borrow.Author.Tests.{ltb-false, eqb-true}
+use borrow.Author.Tests.{ltb-false, eqb-true, le-ltb}
 use lib.Dec.{eqb, leb, ltb}
 use Rattle.words.specs.Choice.{if}
 use Rattle.page.specs.declared.address.ChannelRegister.{ChannelRegister}
@@ -11,6 +11,33 @@ use Rattle.page.specs.declared.address.ChannelRegister.the-variants.{Sta
 use Rattle.page.specs.declared.address.Register.{Register}
 use Rattle.page.specs.declared.address.Register.the-variants.{Pixel, Sprite, Palette, Video, Ivr, Converter, Channel, Dcsr, Status, Empty}
 use Rattle.page.specs.Address.{spriteAt, videoAt, channelAt, registerAt}
+
+-- the page from 6000h on: what stands there, by the bounds that an address has passed
+module _ (a : ℕ) where
+  abbrev from6C00 : Register
+  from6C00 = if (ltb a 0x6c10) (channelAt (a - 0x6c00)) Empty
+
+  abbrev from6800 : Register
+  from6800 = if (ltb a 0x6810) (videoAt (a - 0x6800)) (if (ltb a 0x6c00) Empty from6C00)
+
+  abbrev from6400 : Register
+  from6400 = if (ltb a 0x6440) (Palette (a - 0x6400)) (if (ltb a 0x6800) Empty from6800)
+
+  abbrev from6000 : Register
+  from6000 = if (ltb a 0x6080) (spriteAt (a - 0x6000)) (if (ltb a 0x6400) Empty from6400)
+
+  pub past-6000 : 0x6000 ≤ a → registerAt a ≡ from6000
+  unfolding registerAt
+  past-6000 h = rw (le-ltb a 0x4000 (omega arith), le-ltb a 0x5000 (omega arith), le-ltb a 0x6000 h)
+
+  pub past-6400 : 0x6400 ≤ a → registerAt a ≡ from6400
+  past-6400 h = rw (past-6000 (omega arith), le-ltb a 0x6080 (omega arith), le-ltb a 0x6400 h)
+
+  pub past-6800 : 0x6800 ≤ a → registerAt a ≡ from6800
+  past-6800 h = rw (past-6400 (omega arith), le-ltb a 0x6440 (omega arith), le-ltb a 0x6800 h)
+
+  pub past-6C00 : 0x6c00 ≤ a → registerAt a ≡ from6C00
+  past-6C00 h = rw (past-6800 (omega arith), le-ltb a 0x6810 (omega arith), le-ltb a 0x6c00 h)
 
 -- the place of a register among its channel's
 abbrev pub placeOf : ChannelRegister → ℕ

@@ -83,8 +83,9 @@ fn channel_at(offset: u16) -> Register
     }
 }
 
-// What stands at an address.
-pub fn register_at(address: u16) -> Register
+// Below 6000h.
+fn pixel_at(address: u16) -> Register
+    requires { ⌜ address < 0x6000 ⌝ }
     ensures { λ r. ⌜ Decodes (registerAt address) r ⌝ }
 {
     if address < 0x4000 {
@@ -93,8 +94,15 @@ pub fn register_at(address: u16) -> Register
     if address < 0x5000 {
         return Register::Pixel((address - 0x4000) as usize);
     }
+    Register::Empty
+}
+
+// What stands at an address.
+pub fn register_at(address: u16) -> Register
+    ensures { λ r. ⌜ Decodes (registerAt address) r ⌝ }
+{
     if address < 0x6000 {
-        return Register::Empty;
+        return pixel_at(address);
     }
     if address < 0x6080 {
         return sprite_at(address - 0x6000);
