@@ -1,0 +1,172 @@
+//! bench: core against model, side by side in one run: nanoseconds a call, and
+//! their ratio.
+//! bench CASE core|model COUNT: that many calls of one case and nothing else, to
+//! be counted by callgrind.
+
+use model::chip::{self, Model};
+use model::under_test::UnderTest;
+use plus::{Chip, LINE, RAM, STORE};
+use std::env;
+use std::hint::black_box;
+use std::process::ExitCode;
+use std::time::Instant;
+
+const CASES: [&str; 10] = [
+    "line step",
+    "page write",
+    "page read",
+    "draw, no sprite",
+    "draw, 4 sprites",
+    "draw, 16 sprites",
+    "frame of 312 lines, no sprite",
+    "frame of 312 lines, 16 sprites",
+    "forecast, 32,767 words",
+    "draw, 16 transparent sprites",
+];
+
+/// Calls of each case in one timed run.
+const COUNTS: [usize; CASES.len()] = [
+    100_000, 100_000, 100_000, 2_000, 2_000, 2_000, 10, 10, 20, 2_000,
+];
+
+/// What both are given: RAM with a screen and a list that never ends before its
+/// last word, and a store of opaque pixels.
+struct Lent {
+    ram: Vec<u8>,
+    store: Vec<u8>,
+    line: Vec<u8>,
+}
+
+fn lent() -> Lent {
+    let mut ram: Vec<u8> = (0..RAM as u32).map(|i| (i * 37 + i / 256) as u8).collect();
+    for i in 0..32767 {
+        let word: u16 = [0x0738, 0x2003, 0x1002, 0x080f, 0x4001, 0x3123][i % 6];
+        ram[2 * i..2 * i + 2].copy_from_slice(&word.to_le_bytes());
+    }
+    ram[65532..65534].copy_from_slice(&0x4020u16.to_le_bytes());
+    let store = (0..STORE)
+        .map(|i| if i % 16 < 4 { 0 } else { (i % 15 + 1) as u8 })
+        .collect();
+    Lent {
+        ram,
+        store,
+        line: vec![0; LINE],
+    }
+}
+
+/// Mode 1, 40 characters, 39 rows, so many sprites on every line, all channels
+/// on.
+fn set_up<M: UnderTest>(sprites: u16) -> M {
+    let mut machine = M::open();
+    machine.registers(&[(1, 40), (4, 38), (6, 39), (9, 7), (12, 0x30)]);
+    machine.write_7f(0x81);
+    for n in 0..sprites {
+        let [low, high] = (n * 40).to_le_bytes();
+        machine.poke(0x6000 + 8 * n, low);
+        machine.poke(0x6001 + 8 * n, high);
+        machine.poke(0x6004 + 8 * n, 0b1111);
+    }
+    machine.poke(0x6C0F, 7);
+    machine
+}
+
+/// The calls of each case, written once for both: they have calls of the same
+/// names, and are called here with nothing between.
+macro_rules! calls_of {
+    ($run:ident, $machine:ident, $forecast:path) => {
+        fn $run(case: usize, count: usize) {
+            let mut machine: $machine = set_up(sprites_of(case));
+            let Lent {
+                ram,
+                mut store,
+                mut line,
+            } = lent();
+            if case == 9 {
+                store.fill(0);
+            }
+            match case {
+                0 => repeat(count, |_| {
+                    black_box(machine.step(&ram));
+                }),
+                1 => repeat(count, |i| {
+                    black_box(machine.page_write(&mut store, 0x6400 + i as u16 % 64, i as u8));
+                }),
+                2 => repeat(count, |i| {
+                    black_box(machine.page_read(&store, 0x6400 + i as u16 % 64, 0));
+                }),
+                3..=5 | 9 => repeat(count, |_| {
+                    black_box(machine.draw(&ram, &store, &mut line));
+                }),
+                6 | 7 => repeat(312 * count, |_| {
+                    black_box(machine.draw(&ram, &store, &mut line));
+                    black_box(machine.step(&ram));
+                }),
+                _ => repeat(count, |_| {
+                    black_box($forecast(&ram, 0, 0));
+                }),
+            }
+            black_box((&machine, &line));
+        }
+    };
+}
+
+calls_of!(run_core, Chip, plus::forecast);
+calls_of!(run_model, Model, chip::forecast);
+
+fn repeat(count: usize, call: impl FnMut(usize)) {
+    (0..count).for_each(call);
+}
+
+fn sprites_of(case: usize) -> u16 {
+    match case {
+        4 => 4,
+        5 | 7 | 9 => 16,
+        _ => 0,
+    }
+}
+
+/// Nanoseconds a call: the least of nine runs.
+fn nanoseconds(run: fn(usize, usize), case: usize) -> f64 {
+    (0..9)
+        .map(|_| {
+            let start = Instant::now();
+            run(case, COUNTS[case]);
+            start.elapsed().as_nanos() as f64 / COUNTS[case] as f64
+        })
+        .fold(f64::MAX, f64::min)
+}
+
+fn table() {
+    println!("| case | core, ns | model, ns | ratio |\n|---|---|---|---|");
+    for (case, name) in CASES.iter().enumerate() {
+        let core = nanoseconds(run_core, case);
+        let model = nanoseconds(run_model, case);
+        println!("| {name} | {core:.0} | {model:.0} | {:.2} |", core / model);
+    }
+}
+
+/// One case's run, as the arguments name it.
+fn one_case(arguments: &[String]) -> Option<()> {
+    let [case, which, count] = arguments else {
+        return None;
+    };
+    let case = case.parse().ok().filter(|&case| case < CASES.len())?;
+    let count = count.parse().ok()?;
+    match which.as_str() {
+        "core" => run_core(case, count),
+        "model" => run_model(case, count),
+        _ => return None,
+    }
+    Some(())
+}
+
+fn main() -> ExitCode {
+    let arguments: Vec<String> = env::args().skip(1).collect();
+    if arguments.is_empty() {
+        table();
+    } else if one_case(&arguments).is_none() {
+        eprintln!("bench [CASE core|model COUNT]");
+        return ExitCode::from(2);
+    }
+    ExitCode::SUCCESS
+}

@@ -1,0 +1,185 @@
+//! The chip as document 01 describes it, written from that document alone.
+//!
+//! The state and its reset are here; each group of calls has its own file.
+
+mod draw;
+mod forecast;
+mod interrupts;
+mod line;
+mod lock;
+mod page;
+mod ports;
+mod sound;
+
+pub use draw::byte_address;
+pub use forecast::{forecast, list};
+pub use page::grey;
+
+use lock::History;
+
+/// The numbers a call can answer.
+pub mod answer {
+    pub const DONE: u8 = 0;
+    pub const WRONG_LENGTH: u8 = 1;
+    pub const OUTSIDE: u8 = 2;
+    pub const NOTHING_THERE: u8 = 3;
+    pub const MODE_THREE: u8 = 4;
+    pub const NO_INTERRUPT: u8 = 5;
+    pub const NO_STOP: u8 = 6;
+}
+
+/// Lengths of the lent buffers.
+pub const RAM: usize = 65_536;
+pub const STORE: usize = 4_096;
+pub const LINE: usize = 640;
+
+/// The lock. `stage` only shows what the history of bytes says.
+#[derive(Clone, Copy, Debug, Default, PartialEq, Eq)]
+pub struct Lock {
+    pub unlocked: bool,
+    pub stage: u8,
+}
+
+/// The gate array: screen mode and whether the register page is mapped in.
+#[derive(Clone, Copy, Debug, Default, PartialEq, Eq)]
+pub struct Gate {
+    pub mode: u8,
+    pub mapped: bool,
+}
+
+#[derive(Clone, Copy, Debug, Default, PartialEq, Eq)]
+pub struct Registers {
+    pub r1: u8,
+    pub r4: u8,
+    pub r5: u8,
+    pub r6: u8,
+    pub r9: u8,
+    pub r12: u8,
+    pub r13: u8,
+}
+
+/// Where the picture is. `split` is the captured address while `held`, else 0.
+#[derive(Clone, Copy, Debug, Default, PartialEq, Eq)]
+pub struct Counters {
+    pub vc: u8,
+    pub rc: u8,
+    pub adjust: bool,
+    pub address: u16,
+    pub held: bool,
+    pub split: u16,
+}
+
+#[derive(Clone, Copy, Debug, Default, PartialEq, Eq)]
+pub struct Crtc {
+    pub selected: u8,
+    pub registers: Registers,
+    pub counters: Counters,
+}
+
+#[derive(Clone, Copy, Debug, Default, PartialEq, Eq)]
+pub struct Video {
+    pub pri: u8,
+    pub split_line: u8,
+    pub split_high: u8,
+    pub split_low: u8,
+    pub sscr: u8,
+}
+
+/// X is -256 to 767, Y is -256 to 255. Magnification: bits 3-2 X, 1-0 Y.
+#[derive(Clone, Copy, Debug, Default, PartialEq, Eq)]
+pub struct Sprite {
+    pub x: i16,
+    pub y: i16,
+    pub magnification: u8,
+}
+
+/// `count` counts lines within one step of the pause; `counter` is the loop
+/// counter and `mark` the address it goes back to.
+#[derive(Clone, Copy, Debug, Default, PartialEq, Eq)]
+pub struct Channel {
+    pub enabled: bool,
+    pub interrupt: bool,
+    pub address: u16,
+    pub prescale: u8,
+    pub pause: u16,
+    pub count: u8,
+    pub counter: u16,
+    pub mark: u16,
+}
+
+#[derive(Clone, Copy, Debug, Default, PartialEq, Eq)]
+pub struct Sound {
+    pub channels: [Channel; 3],
+    pub psg: [u8; 16],
+}
+
+#[derive(Clone, Copy, Debug, Default, PartialEq, Eq)]
+pub struct Interrupts {
+    pub raster: bool,
+    pub last_raster: bool,
+    pub ivr: u8,
+}
+
+/// The kinds of sound words.
+#[derive(Clone, Copy, Debug, PartialEq, Eq)]
+pub enum Kind {
+    Load,
+    Pause,
+    Repeat,
+    Control,
+    Nothing,
+}
+
+/// What a channel did on a line; the number is the word's low 12 bits.
+#[derive(Clone, Copy, Debug, PartialEq, Eq)]
+pub enum Did {
+    SatOut,
+    Executed(Kind, u16),
+}
+
+/// What a line step tells.
+#[derive(Clone, Copy, Debug, PartialEq, Eq)]
+pub struct Report {
+    pub cycles: u8,
+    pub did: [Did; 3],
+}
+
+#[derive(Clone, Debug)]
+pub struct Model {
+    pub lock: Lock,
+    pub gate: Gate,
+    pub crtc: Crtc,
+    pub video: Video,
+    pub sprites: [Sprite; 16],
+    pub palette: [u8; 64],
+    pub sound: Sound,
+    pub interrupts: Interrupts,
+    /// The last bytes written to BCxx; what decides the lock.
+    history: History,
+}
+
+impl Model {
+    /// The chip after reset.
+    pub fn new() -> Model {
+        Model {
+            lock: Lock::default(),
+            gate: Gate::default(),
+            crtc: Crtc::default(),
+            video: Video::default(),
+            sprites: [Sprite::default(); 16],
+            palette: [0; 64],
+            sound: Sound::default(),
+            interrupts: Interrupts {
+                ivr: 0x01,
+                ..Interrupts::default()
+            },
+            history: History::new(),
+        }
+    }
+}
+
+impl Default for Model {
+    fn default() -> Model {
+        Model::new()
+    }
+}

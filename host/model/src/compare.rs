@@ -1,0 +1,146 @@
+//! The comparison: one script run on the proved core and on another machine,
+//! with every answer, the whole state and every buffer compared after each call.
+
+mod call;
+mod differ;
+mod phrases;
+mod script;
+
+pub use call::{Answer, Buffers, Call};
+pub use script::Script;
+
+use crate::machine::Machine;
+use plus::Chip;
+use std::fmt;
+
+/// How often each call gave each answer number; `Call::NAMES` names the rows.
+#[derive(Clone, Debug, Default)]
+pub struct Tally {
+    pub scripts: u64,
+    pub calls: u64,
+    pub answers: [[u64; 7]; Call::NAMES.len()],
+}
+
+impl Tally {
+    fn add(&mut self, call: Call, answer: Answer) {
+        if let Some(row) = call.row() {
+            self.calls += 1;
+            self.answers[row][answer.number() as usize] += 1;
+        }
+    }
+}
+
+/// A script on which the two differ.
+#[derive(Debug)]
+pub struct Difference {
+    pub seed: u64,
+    /// The shortest prefix of the script that shows it.
+    pub prefix: Vec<Call>,
+    /// Those of its calls that are enough to show one.
+    pub enough: Vec<Call>,
+    pub how: String,
+}
+
+/// Runs the scripts from `seed` on until `count` calls are made, on the core
+/// and on another machine.
+pub fn compare<M: Machine>(count: u64, seed: u64) -> Result<Tally, Box<Difference>> {
+    let mut tally = Tally::default();
+    while tally.calls < count {
+        let script = Script::new(seed.wrapping_add(tally.scripts));
+        tally.scripts += 1;
+        if let Some((at, _)) = run::<M>(&script, &script.calls, &mut tally) {
+            return Err(Box::new(shown::<M>(&script, at)));
+        }
+    }
+    Ok(tally)
+}
+
+/// The first call after which the two differ, and how.
+fn run<M: Machine>(script: &Script, calls: &[Call], tally: &mut Tally) -> Option<(usize, String)> {
+    let (mut core, mut core_lent) = (Chip::new(), script.lent.clone());
+    let (mut other, mut other_lent) = (M::new(), script.lent.clone());
+    if let Some(start) = script.start {
+        core.put(start);
+        other.put(start);
+    }
+    for (n, &call) in calls.iter().enumerate() {
+        let answer = call.make(&mut core, &mut core_lent);
+        let expected = call.make(&mut other, &mut other_lent);
+        tally.add(call, answer);
+        if answer != expected {
+            return Some((
+                n,
+                format!("core answers {answer:02X?}, not {expected:02X?}"),
+            ));
+        }
+        let state = other.state();
+        if *core != state {
+            return Some((n, differ::parts(&core, &state)));
+        }
+        if core_lent != other_lent {
+            return Some((n, differ::first_byte(&core_lent, &other_lent)));
+        }
+    }
+    None
+}
+
+/// Runs the script again up to the call that showed a difference, and then
+/// without the calls that it doesn't take.
+fn shown<M: Machine>(script: &Script, at: usize) -> Difference {
+    let differs = |calls: &[Call]| run::<M>(script, calls, &mut Tally::default());
+    let prefix = &script.calls[..=at];
+    let (_, how) = differs(prefix).expect("a script runs the same again");
+    assert!(differs(&script.calls[..at]).is_none());
+
+    let mut enough = prefix.to_vec();
+    let mut size = enough.len();
+    while size > 0 {
+        let mut from = 0;
+        while from < enough.len() {
+            let mut fewer = enough.clone();
+            fewer.drain(from..enough.len().min(from + size));
+            match differs(&fewer) {
+                Some((last, _)) => enough = fewer[..=last].to_vec(),
+                None => from += size,
+            }
+        }
+        size /= 2;
+    }
+    Difference {
+        seed: script.seed,
+        prefix: prefix.to_vec(),
+        enough,
+        how,
+    }
+}
+
+impl fmt::Display for Difference {
+    fn fmt(&self, f: &mut fmt::Formatter) -> fmt::Result {
+        writeln!(f, "seed {}: {}", self.seed, self.how)?;
+        writeln!(f, "the shortest prefix has {} calls:", self.prefix.len())?;
+        for call in &self.prefix {
+            writeln!(f, "  {call:02X?}")?;
+        }
+        writeln!(f, "of these, {} are enough to differ:", self.enough.len())?;
+        for call in &self.enough {
+            writeln!(f, "  {call:02X?}")?;
+        }
+        Ok(())
+    }
+}
+
+impl fmt::Display for Tally {
+    fn fmt(&self, f: &mut fmt::Formatter) -> fmt::Result {
+        writeln!(f, "{} calls in {} scripts", self.calls, self.scripts)?;
+        for (name, answers) in Call::NAMES.iter().zip(&self.answers) {
+            write!(f, "{name:12}")?;
+            for (number, times) in answers.iter().enumerate() {
+                if *times != 0 {
+                    write!(f, "  {number}: {times}")?;
+                }
+            }
+            writeln!(f)?;
+        }
+        Ok(())
+    }
+}

@@ -1,0 +1,157 @@
+//! One call of a script, made on a machine.
+
+use crate::machine::Machine;
+use plus::{Length, Report};
+
+/// Bytes that follow each buffer, for lengths above the right one.
+pub const SPARE: usize = 16;
+
+/// What the host lends. A call gets as many bytes of it as the script says.
+#[derive(Clone, PartialEq, Eq)]
+pub struct Buffers {
+    pub ram: Vec<u8>,
+    pub store: Vec<u8>,
+    pub line: Vec<u8>,
+}
+
+/// One call. A buffer's number is the length that is lent.
+#[derive(Clone, Copy, Debug, PartialEq, Eq)]
+pub enum Call {
+    Reset,
+    WriteBc(u8),
+    WriteBd(u8),
+    Write7f(u8),
+    PageRead {
+        store: usize,
+        address: u16,
+        bus: u8,
+    },
+    PageWrite {
+        store: usize,
+        address: u16,
+        byte: u8,
+    },
+    Acknowledge,
+    Step {
+        ram: usize,
+    },
+    Forecast {
+        ram: usize,
+        start: u16,
+        prescale: u8,
+    },
+    Draw {
+        ram: usize,
+        store: usize,
+        line: usize,
+    },
+    /// No call: the host puts a byte into RAM.
+    Ram {
+        address: u16,
+        byte: u8,
+    },
+}
+
+/// All that a call answers.
+#[derive(Clone, Copy, Debug, PartialEq, Eq)]
+pub enum Answer {
+    /// Of a reset, and of a byte put into RAM.
+    Nothing,
+    Number(u8),
+    /// The number, and the byte read or the vector.
+    Byte(u8, u8),
+    Line(u8, Report),
+    Length(Length),
+}
+
+impl Answer {
+    pub fn number(&self) -> u8 {
+        match *self {
+            Answer::Nothing => 0,
+            Answer::Number(number) => number,
+            Answer::Byte(number, _) => number,
+            Answer::Line(number, _) => number,
+            Answer::Length(length) => length.answer,
+        }
+    }
+}
+
+impl Call {
+    pub const NAMES: [&'static str; 10] = [
+        "reset",
+        "write_bc",
+        "write_bd",
+        "write_7f",
+        "page_read",
+        "page_write",
+        "acknowledge",
+        "step",
+        "forecast",
+        "draw",
+    ];
+
+    /// Its place among the names; a byte put into RAM is no call.
+    pub fn row(&self) -> Option<usize> {
+        match self {
+            Call::Reset => Some(0),
+            Call::WriteBc(_) => Some(1),
+            Call::WriteBd(_) => Some(2),
+            Call::Write7f(_) => Some(3),
+            Call::PageRead { .. } => Some(4),
+            Call::PageWrite { .. } => Some(5),
+            Call::Acknowledge => Some(6),
+            Call::Step { .. } => Some(7),
+            Call::Forecast { .. } => Some(8),
+            Call::Draw { .. } => Some(9),
+            Call::Ram { .. } => None,
+        }
+    }
+
+    /// Makes it on a machine.
+    pub fn make<M: Machine>(self, machine: &mut M, lent: &mut Buffers) -> Answer {
+        match self {
+            Call::Reset => {
+                *machine = M::new();
+                Answer::Nothing
+            }
+            Call::WriteBc(byte) => Answer::Number(machine.write_bc(byte)),
+            Call::WriteBd(byte) => Answer::Number(machine.write_bd(byte)),
+            Call::Write7f(byte) => Answer::Number(machine.write_7f(byte)),
+            Call::PageRead {
+                store,
+                address,
+                bus,
+            } => {
+                let (number, byte) = machine.page_read(&lent.store[..store], address, bus);
+                Answer::Byte(number, byte)
+            }
+            Call::PageWrite {
+                store,
+                address,
+                byte,
+            } => Answer::Number(machine.page_write(&mut lent.store[..store], address, byte)),
+            Call::Acknowledge => {
+                let (number, vector) = machine.acknowledge();
+                Answer::Byte(number, vector)
+            }
+            Call::Step { ram } => {
+                let (number, report) = machine.step(&lent.ram[..ram]);
+                Answer::Line(number, report)
+            }
+            Call::Forecast {
+                ram,
+                start,
+                prescale,
+            } => Answer::Length(M::forecast(&lent.ram[..ram], start, prescale)),
+            Call::Draw { ram, store, line } => Answer::Number(machine.draw(
+                &lent.ram[..ram],
+                &lent.store[..store],
+                &mut lent.line[..line],
+            )),
+            Call::Ram { address, byte } => {
+                lent.ram[address as usize] = byte;
+                Answer::Nothing
+            }
+        }
+    }
+}

@@ -1,0 +1,82 @@
+//! Scripts of calls, each made from a seed alone.
+
+use super::call::{Buffers, Call, SPARE};
+use super::phrases::Writer;
+use crate::random::{any_state, any_word, Random};
+use plus::{State, LINE, RAM, STORE};
+
+/// A state to start from, what is lent, and the calls.
+pub struct Script {
+    pub seed: u64,
+    /// None: each machine starts from its own reset.
+    pub start: Option<State>,
+    pub lent: Buffers,
+    pub calls: Vec<Call>,
+}
+
+impl Script {
+    pub fn new(seed: u64) -> Script {
+        let mut random = Random::new(seed);
+        let lent = buffers(&mut random);
+        let start = match random.chance(2) {
+            true => None,
+            false => Some(any_start(&mut random)),
+        };
+        let mut writer = Writer::new(random);
+        if start.is_none() {
+            writer.opening();
+        }
+        while writer.calls.len() < 500 {
+            writer.phrase();
+        }
+        Script {
+            seed,
+            start,
+            lent,
+            calls: writer.calls,
+        }
+    }
+}
+
+/// Any state of the widths that document 01 gives, and half of the times whole
+/// words and bytes where the document leaves the width open or nothing but a
+/// comparison reads it. Beyond its width the rest means nothing there: mode, R5,
+/// R12, VC, RC, screen addresses, the split's high byte, coordinates, green.
+fn any_start(random: &mut Random) -> State {
+    let mut state = any_state(random);
+    if random.chance(2) {
+        return state;
+    }
+    state.crtc.selected = random.byte();
+    state.crtc.registers.r4 = random.byte();
+    state.crtc.registers.r6 = random.byte();
+    state.crtc.registers.r9 = random.byte();
+    for channel in &mut state.sound.channels {
+        channel.address = random.word();
+        channel.pause = random.word();
+        channel.counter = random.word();
+        channel.mark = random.word();
+    }
+    state
+}
+
+/// RAM of zeros, of words without a STOP, or of any bytes.
+fn buffers(r: &mut Random) -> Buffers {
+    let mut lent = Buffers {
+        ram: vec![0; RAM + SPARE],
+        store: vec![0; STORE + SPARE],
+        line: vec![0; LINE + SPARE],
+    };
+    match r.below(4) {
+        0 => {}
+        1 => {
+            for place in lent.ram.chunks_exact_mut(2) {
+                place.copy_from_slice(&any_word(r).to_le_bytes());
+            }
+        }
+        _ => r.fill(&mut lent.ram),
+    }
+    r.fill(&mut lent.store);
+    r.fill(&mut lent.line);
+    lent
+}

@@ -1,0 +1,23 @@
+//! Cores that go wrong in one rule each, to see that tests fail on them. The
+//! readings that document 01 has seen go astray are among them.
+
+mod drawing;
+mod interrupts;
+mod line;
+mod page;
+mod ports;
+mod sound;
+
+pub use drawing::{HighestSpriteFirst, ModeThreeDrawn, ScrollOf3Bits};
+pub use interrupts::{AlwaysCleared, LowestFirst};
+pub use line::{
+    AdvanceByRcAlone, RasterInAdjust, SplitLateInAdjust, SplitOnFirstLine, SteppedThoughRefused,
+};
+pub use page::{
+    HighByteOfBits, LengthLast, PauseEndedByStart, PauseRestartedByDisable, WholePixel,
+};
+pub use ports::{LockingUnmaps, LostZero, MappedAt10, UnlockedAtCd, WholeR4};
+pub use sound::{
+    ControlAsNothing, EightRegisters, HighestChannelFirst, ListWithoutStop, LoopInStopWord,
+    OuterCountKept, PauseOf0Counts, RepeatKTimes,
+};

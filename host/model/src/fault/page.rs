@@ -1,0 +1,70 @@
+//! Faults of the register page.
+
+use crate::machine::Fault;
+use plus::{answer, Chip};
+
+/// The store keeps a pixel's whole byte: only the buffer shows it.
+pub struct WholePixel;
+
+impl Fault for WholePixel {
+    fn page_write(chip: &mut Chip, store: &mut [u8], address: u16, byte: u8) -> u8 {
+        let answer = chip.page_write(store, address, byte);
+        if answer == answer::DONE && (0x4000..0x5000).contains(&address) {
+            store[address as usize - 0x4000] = byte;
+        }
+        answer
+    }
+}
+
+/// A negative coordinate's high byte reads as its bits and not as FFh.
+pub struct HighByteOfBits;
+
+impl Fault for HighByteOfBits {
+    fn page_read(chip: &mut Chip, store: &[u8], address: u16, bus: u8) -> (u8, u8) {
+        match (chip.page_read(store, address, bus), address % 8) {
+            ((answer::DONE, 0xFF), 1) if (0x6000..0x6080).contains(&address) => (answer::DONE, 3),
+            (read, _) => read,
+        }
+    }
+}
+
+/// A page that isn't mapped is told before a store of another length.
+pub struct LengthLast;
+
+impl Fault for LengthLast {
+    fn page_read(chip: &mut Chip, store: &[u8], address: u16, bus: u8) -> (u8, u8) {
+        match chip.page_read(store, address, bus) {
+            (answer::WRONG_LENGTH, _) if !chip.gate.mapped => (answer::NOT_MAPPED, 0),
+            read => read,
+        }
+    }
+}
+
+/// A start address ends the pause.
+pub struct PauseEndedByStart;
+
+impl Fault for PauseEndedByStart {
+    fn page_write(chip: &mut Chip, store: &mut [u8], address: u16, byte: u8) -> u8 {
+        let answer = chip.page_write(store, address, byte);
+        if answer == answer::DONE && (0x6C00..0x6C0C).contains(&address) && address % 4 < 2 {
+            chip.sound.channels[address as usize % 16 / 4].pause = 0;
+        }
+        answer
+    }
+}
+
+/// A channel that is switched off loses the lines counted in its pause.
+pub struct PauseRestartedByDisable;
+
+impl Fault for PauseRestartedByDisable {
+    fn page_write(chip: &mut Chip, store: &mut [u8], address: u16, byte: u8) -> u8 {
+        let before = chip.sound.channels;
+        let answer = chip.page_write(store, address, byte);
+        for (was, channel) in before.iter().zip(&mut chip.sound.channels) {
+            if was.enabled && !channel.enabled {
+                channel.count = 0;
+            }
+        }
+        answer
+    }
+}

@@ -1,0 +1,201 @@
+//! A chip under test: the calls on it, and its state put in and read out.
+//!
+//! The core, the model, and the core with a fault are such machines.
+
+mod convert;
+
+use crate::chip::{self, Did, Kind, Model};
+use plus::{kind, Chip, Length, Report, State};
+use std::marker::PhantomData;
+
+/// Makes four things of one list of the calls on a chip: the trait of all
+/// machines, the core as such a machine, what a fault may change, and the core
+/// with a fault.
+macro_rules! calls {
+    ($($(#[$about:meta])* fn $call:ident($($name:ident: $type:ty),*) -> $answer:ty;)*) => {
+        /// A chip under test.
+        pub trait Machine {
+            /// The chip after reset.
+            fn new() -> Self;
+
+            /// All of its state.
+            fn state(&self) -> State;
+
+            /// Puts it into a state. A lock's stage is 0 to 16.
+            fn put(&mut self, state: State);
+
+            /// The forecast of a sound list, which takes no chip.
+            fn forecast(ram: &[u8], start: u16, prescale: u8) -> Length;
+
+            $($(#[$about])* fn $call(&mut self, $($name: $type),*) -> $answer;)*
+        }
+
+        impl Machine for Chip {
+            fn new() -> Chip {
+                Chip::new()
+            }
+
+            fn state(&self) -> State {
+                **self
+            }
+
+            fn put(&mut self, state: State) {
+                *self = Chip::from(state);
+            }
+
+            fn forecast(ram: &[u8], start: u16, prescale: u8) -> Length {
+                plus::forecast(ram, start, prescale)
+            }
+
+            $(fn $call(&mut self, $($name: $type),*) -> $answer {
+                Chip::$call(self, $($name),*)
+            })*
+        }
+
+        /// A fault: the calls that it spoils. All others are the core's.
+        pub trait Fault {
+            /// The forecast of a sound list.
+            fn forecast(ram: &[u8], start: u16, prescale: u8) -> Length {
+                plus::forecast(ram, start, prescale)
+            }
+
+            $($(#[$about])* fn $call(chip: &mut Chip, $($name: $type),*) -> $answer {
+                chip.$call($($name),*)
+            })*
+        }
+
+        impl<F: Fault> Machine for Faulty<F> {
+            fn new() -> Faulty<F> {
+                Faulty(Chip::new(), PhantomData)
+            }
+
+            fn state(&self) -> State {
+                *self.0
+            }
+
+            fn put(&mut self, state: State) {
+                self.0 = Chip::from(state);
+            }
+
+            fn forecast(ram: &[u8], start: u16, prescale: u8) -> Length {
+                F::forecast(ram, start, prescale)
+            }
+
+            $(fn $call(&mut self, $($name: $type),*) -> $answer {
+                F::$call(&mut self.0, $($name),*)
+            })*
+        }
+    };
+}
+
+calls! {
+    /// A byte to BCxx.
+    fn write_bc(byte: u8) -> u8;
+
+    /// A 6845 data write.
+    fn write_bd(byte: u8) -> u8;
+
+    /// A byte to 7Fxx.
+    fn write_7f(byte: u8) -> u8;
+
+    /// A page read: the answer and the byte.
+    fn page_read(store: &[u8], address: u16, bus: u8) -> (u8, u8);
+
+    /// A page write.
+    fn page_write(store: &mut [u8], address: u16, byte: u8) -> u8;
+
+    /// An acknowledge: the answer and the vector.
+    fn acknowledge() -> (u8, u8);
+
+    /// A line step.
+    fn step(ram: &[u8]) -> (u8, Report);
+
+    /// The current line drawn.
+    fn draw(ram: &[u8], store: &[u8], line: &mut [u8]) -> u8;
+}
+
+/// The core with a fault.
+pub struct Faulty<F>(Chip, PhantomData<F>);
+
+impl Machine for Model {
+    fn new() -> Model {
+        Model::new()
+    }
+
+    fn state(&self) -> State {
+        State::from(self)
+    }
+
+    fn put(&mut self, state: State) {
+        *self = Model::from(state);
+    }
+
+    fn forecast(ram: &[u8], start: u16, prescale: u8) -> Length {
+        let (answer, lines, cycles) = chip::forecast(ram, start, prescale);
+        let list = chip::list(ram, start);
+        let offset = if list.is_empty() {
+            0
+        } else {
+            list.as_ptr() as usize - ram.as_ptr() as usize
+        };
+        Length {
+            answer,
+            lines,
+            cycles,
+            offset: offset as u32,
+            length: list.len() as u32,
+        }
+    }
+
+    fn write_bc(&mut self, byte: u8) -> u8 {
+        Model::write_bc(self, byte)
+    }
+
+    fn write_bd(&mut self, byte: u8) -> u8 {
+        Model::write_bd(self, byte)
+    }
+
+    fn write_7f(&mut self, byte: u8) -> u8 {
+        Model::write_7f(self, byte)
+    }
+
+    fn page_read(&mut self, store: &[u8], address: u16, bus: u8) -> (u8, u8) {
+        Model::page_read(self, store, address, bus)
+    }
+
+    fn page_write(&mut self, store: &mut [u8], address: u16, byte: u8) -> u8 {
+        Model::page_write(self, store, address, byte)
+    }
+
+    fn acknowledge(&mut self) -> (u8, u8) {
+        Model::acknowledge(self)
+    }
+
+    fn step(&mut self, ram: &[u8]) -> (u8, Report) {
+        let (answer, report) = Model::step(self, ram);
+        (answer, in_numbers(&report))
+    }
+
+    fn draw(&mut self, ram: &[u8], store: &[u8], line: &mut [u8]) -> u8 {
+        Model::draw(self, ram, store, line)
+    }
+}
+
+/// The model's report as the C interface numbers it.
+fn in_numbers(report: &chip::Report) -> Report {
+    Report {
+        cycles: report.cycles,
+        kinds: report.did.map(|did| match did {
+            Did::SatOut => kind::SAT_OUT,
+            Did::Executed(Kind::Load, _) => kind::LOAD,
+            Did::Executed(Kind::Pause, _) => kind::PAUSE,
+            Did::Executed(Kind::Repeat, _) => kind::REPEAT,
+            Did::Executed(Kind::Control, _) => kind::CONTROL,
+            Did::Executed(Kind::Nothing, _) => kind::NOTHING,
+        }),
+        lows: report.did.map(|did| match did {
+            Did::SatOut => 0,
+            Did::Executed(_, low) => low,
+        }),
+    }
+}

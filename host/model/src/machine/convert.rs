@@ -1,0 +1,84 @@
+//! The model's state as the core's, and back: structs of the same names and
+//! fields.
+
+use crate::chip::{self, Model};
+use plus::State;
+
+/// Both ways between the two structs of a name.
+macro_rules! same {
+    ($($name:ident { $($field:ident),* })*) => {$(
+        impl From<chip::$name> for plus::$name {
+            fn from(model: chip::$name) -> plus::$name {
+                let chip::$name { $($field),* } = model;
+                plus::$name { $($field: $field.into()),* }
+            }
+        }
+
+        impl From<plus::$name> for chip::$name {
+            fn from(core: plus::$name) -> chip::$name {
+                let plus::$name { $($field),* } = core;
+                chip::$name { $($field: $field.into()),* }
+            }
+        }
+    )*};
+}
+
+same! {
+    Lock { unlocked, stage }
+    Gate { mode, mapped }
+    Registers { r1, r4, r5, r6, r9, r12, r13 }
+    Counters { vc, rc, adjust, address, held, split }
+    Crtc { selected, registers, counters }
+    Video { pri, split_line, split_high, split_low, sscr }
+    Sprite { x, y, magnification }
+    Channel { enabled, interrupt, address, prescale, pause, count, counter, mark }
+    Interrupts { raster, last_raster, ivr }
+}
+
+impl From<chip::Sound> for plus::Sound {
+    fn from(model: chip::Sound) -> plus::Sound {
+        plus::Sound {
+            channels: model.channels.map(Into::into),
+            psg: model.psg,
+        }
+    }
+}
+
+impl From<plus::Sound> for chip::Sound {
+    fn from(core: plus::Sound) -> chip::Sound {
+        chip::Sound {
+            channels: core.channels.map(Into::into),
+            psg: core.psg,
+        }
+    }
+}
+
+impl From<&Model> for State {
+    fn from(model: &Model) -> State {
+        State {
+            lock: model.lock.into(),
+            gate: model.gate.into(),
+            crtc: model.crtc.into(),
+            video: model.video.into(),
+            sprites: model.sprites.map(Into::into),
+            palette: model.palette,
+            sound: model.sound.into(),
+            interrupts: model.interrupts.into(),
+        }
+    }
+}
+
+impl From<State> for Model {
+    fn from(state: State) -> Model {
+        let mut model = Model::new();
+        model.set_lock(state.lock.unlocked, state.lock.stage);
+        model.gate = state.gate.into();
+        model.crtc = state.crtc.into();
+        model.video = state.video.into();
+        model.sprites = state.sprites.map(Into::into);
+        model.palette = state.palette;
+        model.sound = state.sound.into();
+        model.interrupts = state.interrupts.into();
+        model
+    }
+}

@@ -1,0 +1,154 @@
+//! Random states, sound lists and bytes, the same on every run.
+
+use plus::{Channel, Chip, Counters, Sprite, State};
+
+/// A plain random source (xorshift), the same on every run.
+pub struct Random(pub u64);
+
+impl Random {
+    /// The source number `seed` of many, unlike its neighbours.
+    pub fn new(seed: u64) -> Random {
+        let mixed = (seed ^ seed >> 30).wrapping_mul(0xBF58_476D_1CE4_E5B9);
+        let mixed = (mixed ^ mixed >> 27).wrapping_mul(0x94D0_49BB_1331_11EB);
+        // A xorshift that is 0 stays 0.
+        let mut random = Random((mixed ^ mixed >> 31).max(1));
+        random.next();
+        random
+    }
+
+    #[allow(clippy::should_implement_trait)]
+    pub fn next(&mut self) -> u64 {
+        self.0 ^= self.0 << 13;
+        self.0 ^= self.0 >> 7;
+        self.0 ^= self.0 << 17;
+        self.0.wrapping_mul(0x2545_F491_4F6C_DD1D) >> 16
+    }
+
+    /// 0 to n - 1.
+    pub fn below(&mut self, n: u64) -> u64 {
+        self.next() % n
+    }
+
+    pub fn chance(&mut self, one_in: u64) -> bool {
+        self.below(one_in) == 0
+    }
+
+    /// Below `few` one time in `one_in`, else below `often`.
+    pub fn either(&mut self, one_in: u64, few: u64, often: u64) -> u64 {
+        let n = if self.chance(one_in) { few } else { often };
+        self.below(n)
+    }
+
+    pub fn byte(&mut self) -> u8 {
+        self.next() as u8
+    }
+
+    pub fn word(&mut self) -> u16 {
+        self.next() as u16
+    }
+
+    pub fn pick<T: Copy>(&mut self, from: &[T]) -> T {
+        from[self.below(from.len() as u64) as usize]
+    }
+
+    pub fn fill(&mut self, bytes: &mut [u8]) {
+        for byte in bytes {
+            *byte = self.next() as u8;
+        }
+    }
+}
+
+/// Any state within the widths that document 01 gives.
+pub fn any_state(random: &mut Random) -> State {
+    let r = random;
+    let mut state = *Chip::new();
+    state.lock.unlocked = r.chance(2);
+    state.lock.stage = r.below(17) as u8;
+    state.gate.mode = r.below(4) as u8;
+    state.gate.mapped = r.chance(2);
+    state.interrupts.raster = r.chance(2);
+    state.interrupts.last_raster = r.chance(2);
+    state.interrupts.ivr = r.byte();
+    any_video(r, &mut state);
+    for sprite in &mut state.sprites {
+        *sprite = Sprite {
+            x: r.below(1024) as i16 - 256,
+            y: r.below(512) as i16 - 256,
+            magnification: r.below(16) as u8,
+        };
+    }
+    for (n, byte) in state.palette.iter_mut().enumerate() {
+        *byte = r.byte() & if n % 2 == 1 { 0x0F } else { 0xFF };
+    }
+    for channel in &mut state.sound.channels {
+        *channel = any_channel(r);
+    }
+    r.fill(&mut state.sound.psg);
+    state
+}
+
+/// The 6845 and the registers for its lines.
+fn any_video(r: &mut Random, state: &mut State) {
+    state.crtc.selected = r.below(32) as u8;
+    let registers = &mut state.crtc.registers;
+    registers.r1 = r.either(4, 256, 48) as u8;
+    registers.r4 = r.below(128) as u8;
+    registers.r5 = r.below(32) as u8;
+    registers.r6 = r.below(128) as u8;
+    registers.r9 = r.either(2, 32, 9) as u8;
+    registers.r12 = r.below(64) as u8;
+    registers.r13 = r.byte();
+    let held = r.chance(3);
+    state.crtc.counters = Counters {
+        vc: r.either(2, 128, 20) as u8,
+        rc: r.either(2, 32, 8) as u8,
+        adjust: r.chance(6),
+        address: r.below(16_384) as u16,
+        held,
+        split: if held { r.below(16_384) as u16 } else { 0 },
+    };
+    state.video.pri = r.byte();
+    state.video.split_line = r.byte();
+    state.video.split_high = r.below(64) as u8;
+    state.video.split_low = r.byte();
+    state.video.sscr = r.byte();
+}
+
+fn any_channel(r: &mut Random) -> Channel {
+    let pausing = r.chance(2);
+    Channel {
+        enabled: r.chance(2),
+        interrupt: r.chance(2),
+        address: r.word() & 0xFFFE,
+        prescale: r.byte(),
+        pause: if pausing { r.below(4096) as u16 } else { 0 },
+        count: r.byte(),
+        counter: r.below(4096) as u16,
+        mark: r.word() & 0xFFFE,
+    }
+}
+
+/// A list that ends with a STOP, with short pauses and loops.
+pub fn any_list(random: &mut Random) -> Vec<u16> {
+    let length = random.either(10, 120, 16);
+    let mut words: Vec<u16> = (0..length).map(|_| any_word(random)).collect();
+    // The STOP may carry LOOP, INT and bits that mean nothing.
+    words.push(match random.below(3) {
+        0 => 0x4020,
+        1 => 0x4021 | random.next() as u16 & 0x0FFF,
+        _ => 0x4020 | random.next() as u16 & 0x0FFF,
+    });
+    words
+}
+
+/// Any word but a STOP.
+pub fn any_word(random: &mut Random) -> u16 {
+    match random.below(12) {
+        0 | 1 => random.next() as u16 & 0x0FFF,
+        2 | 3 => 0x1000 | random.below(7) as u16,
+        4..=6 => 0x2000 | random.below(6) as u16,
+        7..=9 => 0x4001 | random.next() as u16 & 0x0FDE,
+        10 => 0x4000 | random.next() as u16 & 0x0FDE,
+        _ => [0x3, 0x5, 0x8, 0xF][random.below(4) as usize] << 12 | random.next() as u16 & 0x0FFF,
+    }
+}

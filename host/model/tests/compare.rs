@@ -1,0 +1,90 @@
+//! The core against the model over a million random calls, and that the
+//! comparison can fail.
+
+use model::compare::{compare, Call};
+use model::machine::{Fault, Faulty};
+use model::{fault, Model};
+
+/// The binary `compare` makes as many calls as it is told.
+#[test]
+fn core_is_the_model() {
+    let tally = match compare::<Model>(1_000_000, 1) {
+        Ok(tally) => tally,
+        Err(difference) => panic!("{difference}"),
+    };
+    println!("{tally}");
+    // Each call gave each number that document 01 lets it give, and no other.
+    let numbers: [&[usize]; Call::NAMES.len()] = [
+        &[0],
+        &[0],
+        &[0, 3],
+        &[0, 3],
+        &[0, 1, 2],
+        &[0, 1, 2, 3],
+        &[0, 5],
+        &[0, 1],
+        &[0, 1, 6],
+        &[0, 1, 4],
+    ];
+    for ((name, answers), numbers) in Call::NAMES.iter().zip(tally.answers).zip(numbers) {
+        for (number, times) in answers.into_iter().enumerate() {
+            if numbers.contains(&number) {
+                assert!(times >= 100, "{name} gave {number} only {times} times");
+            } else {
+                assert_eq!(times, 0, "{name} gave {number}");
+            }
+        }
+    }
+}
+
+/// The fault is seen, and the calls that the report calls enough end in the one
+/// that it spoils.
+fn is_caught<F: Fault>(spoilt: &str) {
+    let Err(difference) = compare::<Faulty<F>>(1_000_000, 1) else {
+        panic!("no difference seen");
+    };
+    let report = difference.to_string();
+    assert!(report.starts_with(&format!("seed {}: ", difference.seed)));
+    for calls in [&difference.enough, &difference.prefix] {
+        let row = calls.last().and_then(Call::row).unwrap();
+        assert_eq!(Call::NAMES[row], spoilt, "{report}");
+    }
+    assert!(difference.enough.len() <= difference.prefix.len());
+
+    // The same script shows it again, and nothing is wrong with the model there.
+    let again = compare::<Faulty<F>>(1, difference.seed).unwrap_err();
+    assert_eq!(again.prefix, difference.prefix);
+    assert!(compare::<Model>(1, difference.seed).is_ok());
+}
+
+/// A test for each fault, with the call that it spoils.
+macro_rules! caught {
+    ($($call:ident: $($fault:ident),+;)+) => {$($(
+        #[test]
+        #[allow(non_snake_case)]
+        fn $fault() {
+            is_caught::<fault::$fault>(stringify!($call));
+        }
+    )+)+};
+}
+
+caught! {
+    write_bc: LostZero, UnlockedAtCd, LockingUnmaps;
+    write_bd: WholeR4;
+    write_7f: MappedAt10;
+    page_read: HighByteOfBits, LengthLast;
+    page_write: WholePixel, PauseEndedByStart, PauseRestartedByDisable;
+    acknowledge: LowestFirst, AlwaysCleared;
+    step: SteppedThoughRefused, RasterInAdjust, SplitLateInAdjust, SplitOnFirstLine,
+        AdvanceByRcAlone, RepeatKTimes, OuterCountKept, EightRegisters, HighestChannelFirst,
+        PauseOf0Counts, ControlAsNothing;
+    forecast: LoopInStopWord, ListWithoutStop;
+    draw: HighestSpriteFirst, ScrollOf3Bits, ModeThreeDrawn;
+}
+
+/// A difference in a buffer alone says where it is.
+#[test]
+fn a_byte_that_differs_is_named() {
+    let difference = compare::<Faulty<fault::WholePixel>>(1_000_000, 1).unwrap_err();
+    assert!(difference.how.contains("of the store"), "{difference}");
+}

@@ -1,0 +1,24 @@
+//! The numbers a call can answer. Where several apply it is the lowest.
+
+/// The call was served.
+pub const DONE: u8 = 0;
+
+/// A lent buffer has the wrong length: page read and write, line step, drawing,
+/// forecast.
+pub const WRONG_LENGTH: u8 = 1;
+
+/// The address is not of the page, or the page is not mapped: page read and
+/// write.
+pub const NOT_MAPPED: u8 = 2;
+
+/// There is nothing to write: page write, 6845 data write, gate array write.
+pub const NOTHING_THERE: u8 = 3;
+
+/// The screen mode is 3: drawing.
+pub const MODE_THREE: u8 = 4;
+
+/// No interrupt waits: acknowledge.
+pub const NO_INTERRUPT: u8 = 5;
+
+/// The list has no STOP up to the end of RAM: forecast.
+pub const NO_STOP: u8 = 6;

@@ -1,0 +1,72 @@
+//! `include/plus.h` in Rust: the calls as the library exports them.
+
+use crate::{Chip, Length, State};
+
+#[repr(C)]
+pub(crate) struct Answered {
+    pub answer: u8,
+    pub chip: State,
+}
+
+#[repr(C)]
+pub(crate) struct Acknowledged {
+    pub answer: u8,
+    pub chip: State,
+    pub vector: u8,
+}
+
+#[repr(C)]
+pub(crate) struct ByteRead {
+    pub answer: u8,
+    pub chip: State,
+    pub byte: u8,
+}
+
+#[repr(C)]
+pub(crate) struct Stepped {
+    pub chip: State,
+    pub answer: u8,
+    pub cycles: u8,
+    pub kinds: [u8; 3],
+    pub lows: [u16; 3],
+}
+
+// `Chip` has the layout of `State` but for its alignment, and goes in its place
+// where the C convention copies it to the stack.
+extern "C" {
+    pub(crate) fn plus_reset() -> State;
+    pub(crate) fn plus_write_bc(chip: Chip, byte: u8) -> Answered;
+    pub(crate) fn plus_write_bd(chip: Chip, byte: u8) -> Answered;
+    pub(crate) fn plus_write_7f(chip: Chip, byte: u8) -> Answered;
+    pub(crate) fn plus_page_read(
+        chip: Chip,
+        store: *const u8,
+        store_length: usize,
+        address: u16,
+        bus: u8,
+    ) -> ByteRead;
+    pub(crate) fn plus_page_write(
+        chip: Chip,
+        store: *mut u8,
+        store_length: usize,
+        address: u16,
+        byte: u8,
+    ) -> Answered;
+    pub(crate) fn plus_acknowledge(chip: Chip) -> Acknowledged;
+    pub(crate) fn plus_step(chip: Chip, ram: *const u8, ram_length: usize) -> Stepped;
+    pub(crate) fn plus_forecast(
+        ram: *const u8,
+        ram_length: usize,
+        start: u16,
+        prescale: u8,
+    ) -> Length;
+    pub(crate) fn plus_draw(
+        chip: Chip,
+        ram: *const u8,
+        ram_length: usize,
+        store: *const u8,
+        store_length: usize,
+        line: *mut u8,
+        line_length: usize,
+    ) -> u8;
+}

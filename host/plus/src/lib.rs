@@ -1,0 +1,64 @@
+//! The proved core of the Amstrad Plus chip, from Rust: a safe wrapper over
+//! `libplus.a`, whose C interface is `include/plus.h`.
+//!
+//! A [`Chip`] is the whole state of one chip, held by value; the library keeps
+//! nothing between calls. A host lends each call the buffers it needs: RAM of
+//! [`RAM`] bytes, the sprite pixel store of [`STORE`] bytes, and a line of
+//! [`LINE`] bytes to draw into. Every call answers one of the numbers in
+//! [`answer`]. With any other than [`answer::DONE`] the call was refused: chip
+//! and buffers are as they were, and all else in the answer is 0.
+//!
+//! A sound list forecast, then played on channel 0 up to its STOP:
+//!
+//! ```
+//! use plus::{answer, forecast, Chip, RAM, STORE, UNLOCK};
+//!
+//! // LOAD 7 38h, PAUSE 2, STOP
+//! let (mut ram, mut store) = (vec![0; RAM], vec![0; STORE]);
+//! ram[0x8000..0x8006].copy_from_slice(&[0x38, 0x07, 0x02, 0x10, 0x20, 0x40]);
+//! let told = forecast(&ram, 0x8000, 0);
+//! assert_eq!((told.answer, told.lines, told.cycles), (answer::DONE, 4, 13));
+//!
+//! let mut chip = Chip::new();
+//! UNLOCK.map(|byte| chip.write_bc(byte));
+//! chip.write_7f(0xB8); // maps the register page in
+//! for (address, byte) in [(0x6C00, 0x00), (0x6C01, 0x80), (0x6C02, 0), (0x6C0F, 1)] {
+//!     assert_eq!(chip.page_write(&mut store, address, byte), answer::DONE);
+//! }
+//! assert_eq!(chip.page_read(&store, 0x6C0F, 0), (answer::DONE, 1)); // DCSR: enabled
+//! for _ in 0..told.lines {
+//!     chip.step(&ram);
+//! }
+//! assert_eq!(chip.page_read(&store, 0x6C0F, 0), (answer::DONE, 0)); // and off again
+//! ```
+
+#![warn(missing_docs)]
+
+pub mod answer;
+mod chip;
+mod ffi;
+mod forecast;
+pub mod kind;
+mod state;
+
+pub use chip::{Chip, Report};
+pub use forecast::{forecast, Length};
+pub use state::{
+    Channel, Counters, Crtc, Gate, Interrupts, Lock, Registers, Sound, Sprite, State, Video,
+};
+
+/// How many bytes of RAM a host lends.
+pub const RAM: usize = 65_536;
+
+/// How many bytes the sprite pixel store has.
+pub const STORE: usize = 4_096;
+
+/// How many bytes a drawn line has, each the number of a palette entry.
+pub const LINE: usize = 640;
+
+/// Bytes that unlock a chip, written to BCxx one after the other. Any byte but
+/// zero does for the first, and any at all for the last.
+pub const UNLOCK: [u8; 17] = [
+    0x01, 0x00, 0xFF, 0x77, 0xB3, 0x51, 0xA8, 0xD4, 0x62, 0x39, 0x9C, 0x46, 0x2B, 0x15, 0x8A, 0xCD,
+    0xEE,
+];
