@@ -11,7 +11,7 @@ pub const WRONG_LENGTH: u8 = 1;
 /// write.
 pub const NOT_MAPPED: u8 = 2;
 
-/// There is nothing to write: page write, 6845 data write, gate array write.
+/// Nothing takes the byte: writes to the page, the 6845's data port, 7Fxx.
 pub const NOTHING_THERE: u8 = 3;
 
 /// The screen mode is 3: drawing.

@@ -260,13 +260,8 @@ impl Writer {
             words.pop();
         }
         self.put_words(start, &words);
-        let ram = self.length(RAM);
         let prescale = self.random.either(8, 256, 3) as u8;
-        self.push(Call::Forecast {
-            ram,
-            start,
-            prescale,
-        });
+        self.forecast_of(start, prescale);
 
         let channel = self.random.below(3) as u16;
         let [low, high] = start.to_le_bytes();
@@ -279,9 +274,12 @@ impl Writer {
     }
 
     fn forecast(&mut self) {
+        let (start, prescale) = (self.start(), self.random.byte());
+        self.forecast_of(start, prescale);
+    }
+
+    fn forecast_of(&mut self, start: u16, prescale: u8) {
         let ram = self.length(RAM);
-        let start = self.start();
-        let prescale = self.random.byte();
         self.push(Call::Forecast {
             ram,
             start,

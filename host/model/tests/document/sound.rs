@@ -1,7 +1,5 @@
 //! Document 01, "Sound": the three channels on a line.
 
-#![deny(dead_code)]
-
 use model::random::{any_state, Random};
 use model::under_test::{put_words, ram_with, UnderTest};
 use model::{held, Machine};

@@ -1,8 +1,6 @@
 //! Document 01, "The register page": what is at each address, the pixels, and
 //! the refusals.
 
-#![deny(dead_code)]
-
 use model::random::{any_state, Random};
 use model::under_test::UnderTest;
 use model::{held, Machine};

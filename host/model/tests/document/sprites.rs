@@ -1,7 +1,5 @@
 //! Document 01, "Drawing the current line": the sprites.
 
-#![deny(dead_code)]
-
 use model::under_test::{runs, UnderTest};
 use model::{held, Machine};
 use plus::{LINE, RAM, STORE};

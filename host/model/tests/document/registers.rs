@@ -1,7 +1,5 @@
 //! Document 01, "The register page": what each register keeps and reads.
 
-#![deny(dead_code)]
-
 use model::chip::grey;
 use model::under_test::UnderTest;
 use model::{held, Machine};
@@ -13,52 +11,35 @@ fn place<M: Machine>(chip: &M, n: u16) -> (i16, i16) {
     (sprite.x, sprite.y)
 }
 
-// The upper six bits of the high byte are dropped.
-held!(every_x_of_a_sprite, fails_with HighByteOfBits);
-fn every_x_of_a_sprite<M: Machine>() {
+/// Each number of so many bits written to a coordinate of each sprite, with other
+/// bits of the high byte set, which are dropped. From `negative` on it is below 0.
+fn every_coordinate<M: Machine>(offset: u16, bits: u32, negative: u16, others: u8) {
     let mut chip = M::open();
     for n in 0..16 {
-        let base = 0x6000 + 8 * n;
-        for bits in 0..1024u16 {
-            let [low, high] = bits.to_le_bytes();
-            let x = if bits < 768 {
-                bits as i16
-            } else {
-                bits as i16 - 1024
-            };
-            chip.poke(base, low);
-            chip.poke(base + 1, high | 0xA4);
-            assert_eq!(place(&chip, n), (x, 0));
-            assert_eq!(chip.peek(base, 0x5A), low);
-            assert_eq!(chip.peek(base + 1, 0x5A), if x < 0 { 0xFF } else { high });
+        let at = 0x6000 + 8 * n + offset;
+        for number in 0..1u16 << bits {
+            let [low, high] = number.to_le_bytes();
+            chip.poke(at + 1, high | others);
+            chip.poke(at, low);
+            let below_0 = number >= negative;
+            let value = number as i16 - if below_0 { 1 << bits } else { 0 };
+            let expected = if offset == 0 { (value, 0) } else { (0, value) };
+            assert_eq!(place(&chip, n), expected);
+            assert_eq!(chip.peek(at, 0x5A), low);
+            let high = if below_0 { 0xFF } else { high };
+            assert_eq!(chip.peek(at + 1, 0x5A), high, "{value}");
         }
-        chip.poke(base, 0);
-        chip.poke(base + 1, 0);
     }
 }
 
-// And here the upper seven.
+held!(every_x_of_a_sprite, fails_with HighByteOfBits);
+fn every_x_of_a_sprite<M: Machine>() {
+    every_coordinate::<M>(0, 10, 768, 0xA4);
+}
+
 held!(every_y_of_a_sprite);
 fn every_y_of_a_sprite<M: Machine>() {
-    let mut chip = M::open();
-    for n in 0..16 {
-        let base = 0x6000 + 8 * n;
-        for bits in 0..512u16 {
-            let [low, high] = bits.to_le_bytes();
-            let y = if bits < 256 {
-                bits as i16
-            } else {
-                bits as i16 - 512
-            };
-            chip.poke(base + 3, high | 0x52);
-            chip.poke(base + 2, low);
-            assert_eq!(place(&chip, n), (0, y));
-            assert_eq!(chip.peek(base + 2, 0x5A), low);
-            assert_eq!(chip.peek(base + 3, 0x5A), if y < 0 { 0xFF } else { 0 });
-        }
-        chip.poke(base + 2, 0);
-        chip.poke(base + 3, 0);
-    }
+    every_coordinate::<M>(2, 9, 256, 0x52);
 }
 
 // A low byte alone leaves the high bits, and the other way round.

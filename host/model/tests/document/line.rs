@@ -1,7 +1,5 @@
 //! Document 01, "One line": the counters and the screen address.
 
-#![deny(dead_code)]
-
 use model::random::{any_state, Random};
 use model::under_test::UnderTest;
 use model::{held, Machine};

@@ -1,7 +1,5 @@
 //! Document 01, "The chip we model": the chip after reset.
 
-#![deny(dead_code)]
-
 use model::under_test::{UnderTest, KEY};
 use model::{held, Machine};
 use plus::{Crtc, Gate, Interrupts, Lock, Sound, Sprite, State, Video, RAM, STORE};

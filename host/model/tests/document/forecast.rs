@@ -1,8 +1,6 @@
 //! Document 01, "Sound": the forecast, held to its numbers and to lists that are
 //! really played.
 
-#![deny(dead_code)]
-
 use model::random::{any_list, any_state, Random};
 use model::under_test::{put_words, ram_with, UnderTest};
 use model::{held, Machine};

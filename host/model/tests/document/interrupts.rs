@@ -1,7 +1,5 @@
 //! Document 01, "Interrupts": acknowledge, and what DCSR shows of it.
 
-#![deny(dead_code)]
-
 use model::under_test::{ram_with, UnderTest};
 use model::{held, Machine};
 

@@ -1,7 +1,5 @@
 //! Document 01, "Lock and ports": the lock.
 
-#![deny(dead_code)]
-
 use model::random::Random;
 use model::under_test::{UnderTest, KEY};
 use model::{held, Machine};

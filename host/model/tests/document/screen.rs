@@ -1,7 +1,5 @@
 //! Document 01, "Drawing the current line": the main pens and the soft scroll.
 
-#![deny(dead_code)]
-
 use model::chip::byte_address;
 use model::under_test::{runs, UnderTest};
 use model::{held, Machine};

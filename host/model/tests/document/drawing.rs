@@ -1,8 +1,6 @@
 //! Document 01, "Drawing the current line": the border, the refusals, and every
 //! position against a slow reading.
 
-#![deny(dead_code)]
-
 use model::random::{any_state, Random};
 use model::under_test::UnderTest;
 use model::{held, Machine};

@@ -1,7 +1,5 @@
 //! Document 01, "One line": the raster compare and the split.
 
-#![deny(dead_code)]
-
 use model::under_test::UnderTest;
 use model::{held, Machine};
 use plus::{State, RAM};

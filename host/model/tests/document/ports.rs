@@ -1,7 +1,5 @@
 //! Document 01, "Lock and ports": the 6845's registers and the gate array.
 
-#![deny(dead_code)]
-
 use model::under_test::UnderTest;
 use model::{held, Machine};
 use plus::{Registers, UNLOCK};
