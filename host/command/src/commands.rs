@@ -1,0 +1,86 @@
+//! The commands, and how one is chosen.
+
+mod forecast;
+mod frame;
+mod install;
+mod run;
+
+use crate::failure::Failure;
+use crate::help;
+use crate::output::Output;
+use crate::Done;
+use std::ffi::OsString;
+use std::fs;
+use std::path::Path;
+
+/// A command: its name, what it is given, what it does in a line, all that there
+/// is to know of it, and the function that does it.
+pub struct Command {
+    pub name: &'static str,
+    pub arguments: &'static [&'static str],
+    pub about: &'static str,
+    pub details: &'static str,
+    pub run: fn(&[OsString], &mut Output) -> Done,
+}
+
+/// All of them, in the order of the help.
+pub const COMMANDS: [Command; 4] = [
+    forecast::COMMAND,
+    run::COMMAND,
+    frame::COMMAND,
+    install::COMMAND,
+];
+
+/// The words after `plus` carried out.
+pub fn run(words: &[OsString], output: &mut Output) -> Done {
+    let Some((name, arguments)) = words.split_first() else {
+        return Err(help::wrong("a command is missing"));
+    };
+    match name.to_str() {
+        Some("help" | "--help" | "-h") => help::show(arguments, output),
+        _ => named(name)?.run(arguments, output),
+    }
+}
+
+/// The command of a name.
+pub fn named(name: &OsString) -> Result<&'static Command, Failure> {
+    let unknown = || help::wrong(&format!("there is no command '{}'", name.display()));
+    COMMANDS
+        .iter()
+        .find(|command| name == command.name)
+        .ok_or_else(unknown)
+}
+
+impl Command {
+    /// The words after its name taken as its arguments.
+    fn run(&self, words: &[OsString], output: &mut Output) -> Done {
+        if words.iter().any(|word| word == "--help" || word == "-h") {
+            return help::of(self, output);
+        }
+        if let Some(option) = words.iter().find(|word| is_option(word)) {
+            let wrong = format!("there is no option '{}'", option.display());
+            return Err(help::wrong_for(self, &wrong));
+        }
+        let (given, expected) = (words.len(), self.arguments.len());
+        if given < expected {
+            let wrong = format!("{} is missing", self.arguments[given]);
+            return Err(help::wrong_for(self, &wrong));
+        }
+        if given > expected {
+            let wrong = format!("'{}' is one argument too many", words[expected].display());
+            return Err(help::wrong_for(self, &wrong));
+        }
+        (self.run)(words, output)
+    }
+}
+
+/// A word with a dash before it names no file: `./-x` does.
+fn is_option(word: &OsString) -> bool {
+    let bytes = word.as_encoded_bytes();
+    bytes.len() > 1 && bytes[0] == b'-'
+}
+
+/// A whole file.
+fn read(path: &Path) -> Result<Vec<u8>, Failure> {
+    fs::read(path).map_err(Failure::file(path))
+}

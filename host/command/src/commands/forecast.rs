@@ -1,0 +1,62 @@
+//! `plus forecast FILE`.
+
+use super::Command;
+use crate::failure::Failure;
+use crate::output::Output;
+use crate::Done;
+use plus::{answer, Length, RAM};
+use std::ffi::OsString;
+use std::fs::File;
+use std::io::Read;
+use std::path::Path;
+
+/// Where the list begins.
+const START: u16 = 0x8000;
+
+pub const COMMAND: Command = Command {
+    name: "forecast",
+    arguments: &["FILE"],
+    about: "how long the sound list of a RAM image plays",
+    details: "\
+FILE is an image of RAM, 65,536 bytes, with a sound list at 8000h. Prints
+
+  lines N cycles N
+
+for that list at prescale 0: the lines from its first word through its STOP,
+and the channel's own cycles over them. Refused are an image of another
+length (1) and a list without a STOP up to the end of RAM (6).",
+    run,
+};
+
+fn run(arguments: &[OsString], output: &mut Output) -> Done {
+    let path = Path::new(&arguments[0]);
+    let image = image(path)?;
+    let Length {
+        answer,
+        lines,
+        cycles,
+        ..
+    } = plus::forecast(&image, START, 0);
+    if answer != answer::DONE {
+        return Err(refused(answer, path));
+    }
+    output.line(format_args!("lines {lines} cycles {cycles}"))
+}
+
+/// The file, or as much of it as shows that it is too long.
+fn image(path: &Path) -> Result<Vec<u8>, Failure> {
+    let mut image = Vec::new();
+    File::open(path)
+        .and_then(|file| file.take(RAM as u64 + 1).read_to_end(&mut image))
+        .map_err(Failure::file(path))?;
+    Ok(image)
+}
+
+fn refused(number: u8, path: &Path) -> Failure {
+    let name = path.display();
+    let meaning = match number {
+        answer::NO_STOP => format!("{name} has no STOP from {START:04X}h on"),
+        _ => format!("{name} is not an image of {RAM} bytes"),
+    };
+    Failure::Refused { number, meaning }
+}

@@ -1,0 +1,60 @@
+//! `plus run FILE`.
+
+use super::{read, Command};
+use crate::failure::Failure;
+use crate::lines;
+use crate::output::Output;
+use crate::scene::{self, Short};
+use crate::Done;
+use std::ffi::OsString;
+use std::path::Path;
+
+pub const COMMAND: Command = Command {
+    name: "run",
+    arguments: &["FILE"],
+    about: "what each record of a scene answers",
+    details: "\
+FILE is a scene: 65,536 bytes of RAM, 4,096 bytes of pixel store, then records
+of 4 bytes to the end: a letter, an address low and high, a value. The chip
+starts from reset. Prints a line for each record, which begins with the number
+that its call answered; a refusal there is part of the run.
+
+  B D G  value to BCxx, the 6845's data port, 7Fxx
+  W      value to the page at the address
+  R      reads the page, value on the bus: and the byte
+  A      acknowledges: and the vector
+  L      steps a line: the cycles, and for each channel - or kind and low bits
+  P      draws the line: an entry a character, 0 to 9 and a to v
+  F      forecasts the list at the address, value the prescale: lines, cycles,
+         and the list's bytes
+  M      value into RAM
+  Z      resets
+
+Any other letter prints `bad`. A scene that ends early prints `short` last,
+and where it ends is said on standard error.",
+    run,
+};
+
+fn run(arguments: &[OsString], output: &mut Output) -> Done {
+    let path = Path::new(&arguments[0]);
+    let file = read(path)?;
+    let ended_early = |short: Short, output: &mut Output| {
+        output.line(lines::SHORT)?;
+        output.finish()?;
+        Err(Failure::Short {
+            path: path.to_owned(),
+            short,
+        })
+    };
+    let (mut player, records) = match scene::open(&file) {
+        Ok(opened) => opened,
+        Err(short) => return ended_early(short, output),
+    };
+    for record in records {
+        match record {
+            Ok(record) => output.line(player.play(record))?,
+            Err(short) => return ended_early(short, output),
+        }
+    }
+    Ok(())
+}

@@ -1,0 +1,60 @@
+//! Why a command gave nothing, what it says then, and its exit status.
+
+use crate::scene::Short;
+use std::fmt;
+use std::io::{self, Write};
+use std::path::{Path, PathBuf};
+use std::process::ExitCode;
+
+/// Why a command ended early.
+#[derive(Debug)]
+pub enum Failure {
+    /// Wrong use: what was wrong, and what is expected.
+    Usage { wrong: String, expected: String },
+    /// A call of the core was refused: its number, and what that means here.
+    Refused { number: u8, meaning: String },
+    /// A file can't be read or written.
+    File { path: PathBuf, error: io::Error },
+    /// A scene ends early.
+    Short { path: PathBuf, short: Short },
+    /// Standard output can't be written.
+    Output(io::Error),
+}
+
+impl Failure {
+    /// For a file that was named on the command line.
+    pub fn file(path: &Path) -> impl FnOnce(io::Error) -> Failure + '_ {
+        move |error| Failure::File {
+            path: path.to_owned(),
+            error,
+        }
+    }
+
+    /// Says it on standard error, and gives the exit status. A reader that has
+    /// closed standard output has had enough, and that is no failure.
+    pub fn tell(&self) -> ExitCode {
+        if let Failure::Output(error) = self {
+            if error.kind() == io::ErrorKind::BrokenPipe {
+                return ExitCode::SUCCESS;
+            }
+        }
+        // With standard error gone too there is nobody left to tell.
+        let _ = writeln!(io::stderr(), "{self}");
+        match self {
+            Failure::Usage { .. } => ExitCode::from(2),
+            _ => ExitCode::FAILURE,
+        }
+    }
+}
+
+impl fmt::Display for Failure {
+    fn fmt(&self, f: &mut fmt::Formatter) -> fmt::Result {
+        match self {
+            Failure::Usage { wrong, expected } => write!(f, "{wrong}\n{expected}"),
+            Failure::Refused { number, meaning } => write!(f, "refused {number}: {meaning}"),
+            Failure::File { path, error } => write!(f, "{}: {error}", path.display()),
+            Failure::Short { path, short } => write!(f, "{}: {short}", path.display()),
+            Failure::Output(error) => write!(f, "standard output: {error}"),
+        }
+    }
+}

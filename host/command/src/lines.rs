@@ -1,0 +1,64 @@
+//! The line of text for what a record gave, as the proved runner prints it.
+
+use crate::player::Outcome;
+use plus::{answer, kind, Length, Report};
+use std::fmt;
+
+/// The line for input that ends early.
+pub const SHORT: &str = "short";
+
+impl fmt::Display for Outcome {
+    fn fmt(&self, f: &mut fmt::Formatter) -> fmt::Result {
+        match self {
+            Outcome::Answer(answer) => write!(f, "{answer}"),
+            Outcome::Byte(answer, byte) => write!(f, "{answer} {byte}"),
+            Outcome::Line(answer, report) => stepped(f, *answer, report),
+            Outcome::Drawn(answer::DONE, line) => drawn(f, &line[..]),
+            Outcome::Drawn(answer, _) => write!(f, "{answer}"),
+            Outcome::Forecast(told) => forecast(f, told),
+            Outcome::Bad => f.write_str("bad"),
+        }
+    }
+}
+
+/// The answer, the cycles, and for each channel a dash or the kind and low 12
+/// bits of its word.
+fn stepped(f: &mut fmt::Formatter, answer: u8, report: &Report) -> fmt::Result {
+    write!(f, "{answer} {}", report.cycles)?;
+    for (&kind, low) in report.kinds.iter().zip(report.lows) {
+        match kind {
+            kind::SAT_OUT => f.write_str(" -")?,
+            kind => write!(f, " {} {low}", name_of(kind))?,
+        }
+    }
+    Ok(())
+}
+
+fn name_of(kind: u8) -> &'static str {
+    match kind {
+        kind::LOAD => "load",
+        kind::PAUSE => "pause",
+        kind::REPEAT => "repeat",
+        kind::CONTROL => "control",
+        _ => "nothing",
+    }
+}
+
+/// A character for each palette entry: 0 to 9, then a to v.
+fn drawn(f: &mut fmt::Formatter, line: &[u8]) -> fmt::Result {
+    let character = |&entry: &u8| char::from_digit(entry.into(), 32).unwrap_or('?');
+    let text: String = line.iter().map(character).collect();
+    write!(f, "{} {text}", answer::DONE)
+}
+
+/// The answer, lines, cycles, and how many bytes the list has.
+fn forecast(f: &mut fmt::Formatter, told: &Length) -> fmt::Result {
+    let Length {
+        answer,
+        lines,
+        cycles,
+        length,
+        ..
+    } = told;
+    write!(f, "{answer} {lines} {cycles} {length}")
+}

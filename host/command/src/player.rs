@@ -1,0 +1,89 @@
+//! The playing of a scene: each record's call, made on the proved core.
+
+use crate::scene::Record;
+use plus::{answer, Chip, Length, Report, LINE};
+
+/// A chip, and what is lent to it.
+pub struct Player {
+    pub chip: Chip,
+    pub ram: Vec<u8>,
+    pub store: Vec<u8>,
+}
+
+/// What a record's call gave.
+pub enum Outcome {
+    /// An answer alone.
+    Answer(u8),
+    /// An answer, and the byte read or the vector.
+    Byte(u8, u8),
+    /// A line step.
+    Line(u8, Report),
+    /// A drawn line.
+    Drawn(u8, Box<[u8; LINE]>),
+    /// A forecast.
+    Forecast(Length),
+    /// The letter names no call.
+    Bad,
+}
+
+impl Player {
+    /// After reset, with RAM and store of the right lengths.
+    pub fn new(ram: &[u8], store: &[u8]) -> Player {
+        Player {
+            chip: Chip::new(),
+            ram: ram.to_vec(),
+            store: store.to_vec(),
+        }
+    }
+
+    /// Makes a record's call.
+    pub fn play(&mut self, record: Record) -> Outcome {
+        let Record { op, address, value } = record;
+        match op {
+            b'B' => Outcome::Answer(self.chip.write_bc(value)),
+            b'D' => Outcome::Answer(self.chip.write_bd(value)),
+            b'G' => Outcome::Answer(self.chip.write_7f(value)),
+            b'W' => Outcome::Answer(self.chip.page_write(&mut self.store, address, value)),
+            b'R' => self.read(address, value),
+            b'A' => self.acknowledge(),
+            b'L' => self.step(),
+            b'P' => self.draw(),
+            b'F' => Outcome::Forecast(plus::forecast(&self.ram, address, value)),
+            b'M' => self.poke(address, value),
+            b'Z' => self.reset(),
+            _ => Outcome::Bad,
+        }
+    }
+
+    fn read(&mut self, address: u16, bus: u8) -> Outcome {
+        let (answer, byte) = self.chip.page_read(&self.store, address, bus);
+        Outcome::Byte(answer, byte)
+    }
+
+    fn acknowledge(&mut self) -> Outcome {
+        let (answer, vector) = self.chip.acknowledge();
+        Outcome::Byte(answer, vector)
+    }
+
+    fn step(&mut self) -> Outcome {
+        let (answer, report) = self.chip.step(&self.ram);
+        Outcome::Line(answer, report)
+    }
+
+    fn draw(&mut self) -> Outcome {
+        let mut line = Box::new([0; LINE]);
+        let answer = self.chip.draw(&self.ram, &self.store, &mut line[..]);
+        Outcome::Drawn(answer, line)
+    }
+
+    /// A byte of RAM.
+    fn poke(&mut self, address: u16, value: u8) -> Outcome {
+        self.ram[usize::from(address)] = value;
+        Outcome::Answer(answer::DONE)
+    }
+
+    fn reset(&mut self) -> Outcome {
+        self.chip = Chip::new();
+        Outcome::Answer(answer::DONE)
+    }
+}

@@ -1,0 +1,9 @@
+//! The commands as a person uses them: the built program on real files, what it
+//! prints, what it says on standard error, and its exit status.
+
+mod forecast;
+mod frame;
+mod install;
+mod run;
+mod tools;
+mod usage;

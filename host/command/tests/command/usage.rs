@@ -1,0 +1,105 @@
+//! Help, and wrong use.
+
+use crate::tools::plus;
+use std::ffi::OsStr;
+use std::os::unix::ffi::OsStrExt;
+
+/// Each command with its arguments.
+const COMMANDS: [(&str, &[&str]); 4] = [
+    ("forecast", &["FILE"]),
+    ("run", &["FILE"]),
+    ("frame", &["FILE", "OUT.png"]),
+    ("install", &["PREFIX"]),
+];
+
+const OVERVIEW: &str = "\
+usage: plus COMMAND ...
+
+  forecast FILE        how long the sound list of a RAM image plays
+  run FILE             what each record of a scene answers
+  frame FILE OUT.png   a picture of the frame that a scene leads to
+  install PREFIX       header, library, pkg-config file and this program
+  help [COMMAND]       this, or all about one command
+";
+
+fn usage(command: &str, arguments: &[&str]) -> String {
+    format!("usage: plus {command} {}\n", arguments.join(" "))
+}
+
+#[test]
+fn help_on_all() {
+    for word in ["help", "--help", "-h"] {
+        let ran = plus([word]);
+        assert_eq!((ran.status, &*ran.err), (Some(0), ""));
+        assert!(ran.out.starts_with(&format!("{OVERVIEW}\nExit status: ")));
+    }
+}
+
+#[test]
+fn help_on_each_command() {
+    for (command, arguments) in COMMANDS {
+        let ran = plus(["help", command]);
+        assert_eq!((ran.status, &*ran.err), (Some(0), ""));
+        assert!(
+            ran.out.starts_with(&usage(command, arguments)),
+            "{}",
+            ran.out
+        );
+        assert!(ran.out.lines().count() > 4, "{}", ran.out);
+        assert!(ran.out.lines().all(|line| line.len() <= 80), "{}", ran.out);
+        for words in [[command, "--help"], [command, "-h"], ["--help", command]] {
+            plus(words).prints(&ran.out);
+        }
+    }
+}
+
+#[test]
+fn no_command() {
+    plus::<&str>([]).fails(2, &format!("plus: a command is missing\n{OVERVIEW}"));
+}
+
+#[test]
+fn an_unknown_command() {
+    for words in [&["forcast", "x"][..], &["help", "forcast"]] {
+        let said = format!("plus: there is no command 'forcast'\n{OVERVIEW}");
+        plus(words).fails(2, &said);
+    }
+    let said = format!("plus: there is no command '--version'\n{OVERVIEW}");
+    plus(["--version"]).fails(2, &said);
+}
+
+#[test]
+fn missing_and_extra_arguments() {
+    for (command, arguments) in COMMANDS {
+        let expected = usage(command, arguments);
+        let fails = |words: &[&str], wrong: &str| {
+            let words = [&[command], words].concat();
+            let said =
+                format!("plus: {command}: {wrong}\n{expected}`plus help {command}` says more\n");
+            plus(words).fails(2, &said);
+        };
+        for given in 0..arguments.len() {
+            let wrong = format!("{} is missing", arguments[given]);
+            fails(&["x"; 2][..given], &wrong);
+        }
+        let mut words = vec!["x"; arguments.len()];
+        words.push("more");
+        fails(&words, "'more' is one argument too many");
+        fails(&["--fast"], "there is no option '--fast'");
+    }
+    let said = "plus: 'more' is one argument too many\nusage: plus help [COMMAND]\n";
+    plus(["help", "run", "more"]).fails(2, said);
+}
+
+/// A name that isn't text is named as well as can be.
+#[test]
+fn a_name_that_is_no_text() {
+    let name = OsStr::from_bytes(b"no\xFFname");
+    let said = "no\u{FFFD}name: No such file or directory (os error 2)\n";
+    plus([OsStr::new("run"), name]).fails(1, said);
+    let ran = plus([name]);
+    assert_eq!(ran.status, Some(2));
+    assert!(ran
+        .err
+        .starts_with("plus: there is no command 'no\u{FFFD}name'\n"));
+}
