@@ -1,4 +1,4 @@
-"""The calls of docs/01-scope.md, written from that page alone, for the expected output of plus_run.
+"""The chip of document 01, written from that document alone, for the expected output of plus_run and `plus run`.
 
 A Chip is played by play(ram, store, records); it answers the lines that the program should print."""
 

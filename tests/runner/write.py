@@ -1,6 +1,6 @@
 """Writes the pairs beside this file, and the stored run of the crate plus_run.
 
-The lines of the stored run stand here by hand, from docs/01-scope.md; the model has to agree with them.
+The lines of the stored run stand here by hand, from document 01; the model has to agree with them.
 `write.py drawing` writes it for a program that draws."""
 import os
 import random
