@@ -1,5 +1,6 @@
-//! Links the proved library: libplus.a of the folder that PLUS_LIB_DIR names,
-//! or else the one that `rt staticlib plus` writes in this repository.
+//! Links the proved library: libplus.a of the folder that PLUS_LIB_DIR names (by
+//! its whole path), or else the one that `rt staticlib plus` writes in this
+//! repository.
 
 use std::env;
 use std::path::{Path, PathBuf};
@@ -10,6 +11,11 @@ fn main() {
         Some(folder) => PathBuf::from(folder),
         None => Path::new(env!("CARGO_MANIFEST_DIR")).join("../../target/staticlib"),
     };
+    assert!(
+        folder.is_absolute(),
+        "PLUS_LIB_DIR has to be a whole path, and is {}",
+        folder.display()
+    );
     let library = folder.join("libplus.a");
     println!("cargo:rerun-if-changed={}", library.display());
     assert!(

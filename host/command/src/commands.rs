@@ -24,7 +24,7 @@ pub struct Command {
 }
 
 /// All of them, in the order of the help.
-pub const COMMANDS: [Command; 4] = [
+pub const COMMANDS: &[Command] = &[
     forecast::COMMAND,
     run::COMMAND,
     frame::COMMAND,

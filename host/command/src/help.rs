@@ -16,16 +16,20 @@ standard output and leaves an output file alone.";
 /// `plus help [COMMAND]`.
 pub fn show(words: &[OsString], output: &mut Output) -> Done {
     match words {
-        [] => {
-            output.line(overview())?;
-            output.line(format_args!("\n{COMMON}"))
-        }
+        [] => all(output),
+        [name] if name == "help" => all(output),
         [name] => of(named(name)?, output),
         [_, extra, ..] => {
             let wrong = format!("'{}' is one argument too many", extra.display());
             Err(wrong_use(&wrong, "usage: plus help [COMMAND]".to_string()))
         }
     }
+}
+
+/// The help on all commands.
+fn all(output: &mut Output) -> Done {
+    output.line(overview())?;
+    output.line(format_args!("\n{COMMON}"))
 }
 
 /// The help on one command.

@@ -37,24 +37,28 @@ and where it ends is said on standard error.",
 
 fn run(arguments: &[OsString], output: &mut Output) -> Done {
     let path = Path::new(&arguments[0]);
-    let file = read(path)?;
-    let ended_early = |short: Short, output: &mut Output| {
-        output.line(lines::SHORT)?;
-        output.finish()?;
-        Err(Failure::Short {
-            path: path.to_owned(),
-            short,
-        })
+    let Some(short) = played(&read(path)?, output)? else {
+        return Ok(());
     };
-    let (mut player, records) = match scene::open(&file) {
+    output.line(lines::SHORT)?;
+    output.finish()?;
+    Err(Failure::Short {
+        path: path.to_owned(),
+        short,
+    })
+}
+
+/// Prints the line of each record, up to where the scene ends early, if it does.
+fn played(file: &[u8], output: &mut Output) -> Result<Option<Short>, Failure> {
+    let (mut player, records) = match scene::open(file) {
         Ok(opened) => opened,
-        Err(short) => return ended_early(short, output),
+        Err(short) => return Ok(Some(short)),
     };
     for record in records {
         match record {
             Ok(record) => output.line(player.play(record))?,
-            Err(short) => return ended_early(short, output),
+            Err(short) => return Ok(Some(short)),
         }
     }
-    Ok(())
+    Ok(None)
 }

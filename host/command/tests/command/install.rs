@@ -97,7 +97,7 @@ fn a_prefix_that_cant_be_written_is_named() {
 
 #[test]
 fn a_prefix_that_no_pc_file_can_name() {
-    for prefix in ["/tmp/a\"b", "/tmp/a$b", "/tmp/a\nb"] {
+    for prefix in ["a\"b", "a$b", "a\nb"] {
         let ran = plus(["install", prefix]);
         let said = "\
 plus: install: PREFIX has a character that a .pc file can't have

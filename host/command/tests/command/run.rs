@@ -5,8 +5,7 @@ use plus::{RAM, STORE, UNLOCK};
 use std::fs::{self, File};
 use std::io;
 
-/// What the proved runner prints on the first bytes of a stored input, by the
-/// stored output of the whole.
+/// A stored input, and the stored output: what the proved runner prints on it.
 fn stored(name: &str) -> (Vec<u8>, String) {
     let input = fs::read(repository(&format!("{name}in"))).unwrap();
     let output = fs::read_to_string(repository(&format!("{name}out"))).unwrap();

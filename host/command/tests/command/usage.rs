@@ -28,8 +28,8 @@ fn usage(command: &str, arguments: &[&str]) -> String {
 
 #[test]
 fn help_on_all() {
-    for word in ["help", "--help", "-h"] {
-        let ran = plus([word]);
+    for words in [&["help"][..], &["--help"], &["-h"], &["help", "help"]] {
+        let ran = plus(words);
         assert_eq!((ran.status, &*ran.err), (Some(0), ""));
         assert!(ran.out.starts_with(&format!("{OVERVIEW}\nExit status: ")));
     }
