@@ -13,7 +13,7 @@ use Rattle.chip.specs.declared.Chip.{Chip}
 use Rattle.chip.specs.declared.Interrupts.{Interrupts}
 use Rattle.chip.specs.declared.Acknowledged.{Acknowledged}
 use Rattle.chip.specs.State.{withInterrupts, withSound}
-use Rattle.chip.specs.Contracts.{done, noInterrupt, served}
+use Rattle.words.specs.Answers.{done, noInterrupt, served}
 
 -- channel n's interrupt waits
 abbrev pub waiting : Sound → ℕ → Bool
@@ -69,7 +69,7 @@ cleared d = withFlags d (d .enabled) false
 abbrev pub withCleared : Sound → ℕ → Sound
 withCleared s n = record { channels = set (s .channels) n (cleared (channelOf (s .channels) n)); psg = s .psg }
 
--- a channel's interrupt is cleared only if IVR bit 0 is 0
+-- a channel that is served loses its interrupt with IVR bit 0 at 0, and keeps it with 1
 unfoldable pub soundServed : Sound → ℕ → ℕ → Sound
 soundServed s ivr source = if (either (leb ofRaster source) (bit 0 ivr)) s (withCleared s (channelFor source))
 

@@ -11,7 +11,8 @@ use Rattle.chip.specs.declared.Gate.{Gate}
 use Rattle.chip.specs.declared.Chip.{Chip}
 use Rattle.chip.specs.declared.Answered.{Answered}
 use Rattle.chip.specs.State.{withLock, withGate, withCrtc, withRegisters, withRaster}
-use Rattle.chip.specs.Contracts.{done, nothingThere, Answers}
+use Rattle.words.specs.Answers.{done, nothingThere}
+use Rattle.chip.specs.Contracts.{Answers}
 
 -- a BCxx byte selects a 6845 register by its low 5 bits and feeds the lock
 unfoldable pub selected : Chip → ℕ → Chip
@@ -48,7 +49,7 @@ gateAnswer b = if (gateServed b) done nothingThere
 abbrev pub forPage : Chip → ℕ → Bool
 forPage c b = both (eqb (top b) 5) (c .lock .unlocked)
 
--- for the page: it is mapped in if bits 4-3 are 11, and out otherwise; for the mode: it is bits 1-0
+-- a byte for the page maps it where bits 4 and 3 are both set, else unmaps it; a byte for the mode has it in bits 1-0
 unfoldable pub gateAfter : Gate → Bool → ℕ → Gate
 gateAfter g page b =
     if page (record { mode = g .mode; mapped = eqb (b / 8 % 4) 3 }) (record { mode = b % 4; mapped = g .mapped })

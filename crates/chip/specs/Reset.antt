@@ -2,19 +2,14 @@
 use mathlib.Core.Path.{_≡_}
 use mathlib.Core.Bool.{false}
 use mathlib.Core.List.{[]}
-use lib.IntN.{pos}
 use lib.ListN.{replicate}
 use Rattle.lock.specs.Machine.{resetLock, Tracks}
 use Rattle.sound.specs.Line.{offChannel}
 use Rattle.sound.specs.declared.Sound.{Sound}
 use Rattle.crtc.specs.declared.Video.{Video}
-use Rattle.picture.specs.declared.sprite.Sprite.{Sprite}
+use Rattle.picture.specs.Sprites.{offSprite}
 use Rattle.chip.specs.declared.Crtc.{Crtc}
 use Rattle.chip.specs.declared.Chip.{Chip}
-
--- a sprite that is off, at 0, 0
-abbrev pub offSprite : Sprite
-offSprite = record { x = pos 0; y = pos 0; magnification = 0 }
 
 -- all registers and counters 0; the first line has screen address 0
 abbrev pub resetCrtc : Crtc

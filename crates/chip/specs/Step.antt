@@ -13,7 +13,7 @@ use Rattle.crtc.specs.Line.{lineOf}
 use Rattle.chip.specs.declared.Chip.{Chip}
 use Rattle.chip.specs.declared.Stepped.{Stepped}
 use Rattle.chip.specs.State.{withSound, withCounters, withRaster}
-use Rattle.chip.specs.Contracts.{done, wrongLength, served}
+use Rattle.words.specs.Answers.{done, wrongLength, served}
 
 -- RAM has 65,536 bytes
 unfoldable pub stepAnswer : List ℕ → ℕ

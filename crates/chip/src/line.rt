@@ -1,11 +1,11 @@
 // The line step.
 use crate::Chip;
-use crate::DONE;
 use crate::Stepped;
-use crate::WRONG_LENGTH;
 use sound::Did;
 use sound::Entry;
 use sound::Report;
+use words::answer::DONE;
+use words::answer::WRONG_LENGTH;
 ghost use mathlib.Core.Path.{_≡_};
 ghost use Rattle.chip.specs.Step.{idleReport, Steps};
 

@@ -1,9 +1,9 @@
 // The ports: BCxx, the 6845 data write, 7Fxx.
 use crate::Answered;
 use crate::Chip;
-use crate::DONE;
 use crate::Gate;
-use crate::NOTHING_THERE;
+use words::answer::DONE;
+use words::answer::NOTHING_THERE;
 ghost use mathlib.Core.Path.{_≡_};
 ghost use Rattle.chip.specs.Contracts.{Answers};
 ghost use Rattle.chip.specs.Ports.{Selects, dataAnswer, dataWritten, gateAnswer, gateAfter, gateWritten};

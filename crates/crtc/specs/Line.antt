@@ -41,7 +41,7 @@ captured v c =
     })
     c
 
--- in adjust the frame ends when RC + 1 is R5 or more; outside, with the row whose VC is R4 if R5 is 0
+-- an adjust line is the last if RC + 1 reaches R5; outside adjust, the last line of the row whose VC is R4 is, if R5 is 0
 unfoldable pub frameEnds : Registers → Counters → Bool
 frameEnds r c =
     if (c .adjust) (leb (r .r5) (c .rc + 1))
@@ -71,8 +71,8 @@ positionAfter r c =
 abbrev pub scrollLines : ℕ → ℕ
 scrollLines sscr = sscr / 16 % 8
 
--- entering any other line: a held split address becomes the screen address; with none held R1 is added, mod 16,384, if
--- RC of the line just done and the soft scroll, mod 32, are R9
+-- the screen address of any line but a frame's first: a split address that is held; else R1 more (mod 16,384) if the line before it ended
+-- a row of bytes, its RC and the soft scroll (mod 32) being R9; else the same
 unfoldable pub addressAfter : Registers → ℕ → Counters → ℕ
 addressAfter r sscr c =
     if (c .held) (c .split)

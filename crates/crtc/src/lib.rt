@@ -4,7 +4,7 @@ ghost use mathlib.Core.Bool.{false};
 ghost use Rattle.crtc.specs.Registers.{hasRegister, written};
 ghost use Rattle.crtc.specs.Line.{rasterDue, splitDue, captured, frameEnds, positionAfter, addressAfter, frameStart, counted, lineOf};
 
-// The registers that are kept, at most as wide as document 01 says.
+// The registers that are kept. A data write stores no more bits than document 01 gives a register; the fields themselves hold any byte.
 #[repr(C)]
 pub struct Registers {
     pub r1: u8,

@@ -11,7 +11,7 @@ use Rattle.picture.specs.Screen.{rowLine}
 use Rattle.screen.specs.MainLine.{linePen}
 use Rattle.overlay.specs.Overlay.{firstPixel}
 use Rattle.chip.specs.declared.Chip.{Chip}
-use Rattle.chip.specs.Contracts.{done, wrongLength, modeThree}
+use Rattle.words.specs.Answers.{done, wrongLength, modeThree}
 
 -- 1 for a buffer of another length, then 4 for mode 3
 unfoldable pub drawAnswer : Chip → ℕ → ℕ → ℕ → ℕ
@@ -49,7 +49,7 @@ screenPen c ram p =
 unfoldable pub mainPen : Chip → List ℕ → ℕ → ℕ
 mainPen c ram x = if (ltb x (scrollPositions c)) 0 (screenPen c ram (x - scrollPositions c))
 
--- border, then the lowest-numbered sprite that covers x with a pixel not 0, then the main pen
+-- border comes first, then the sprites by their order, then the main pen
 unfoldable pub entryAt : Chip → List ℕ → List ℕ → ℕ → ℕ
 entryAt c ram store x =
     if (either (allBorder c) (isBorder c x)) 16

@@ -1,4 +1,5 @@
--- The entries of a line from its parts: border by its edges, the sprites on it, the main pens.
+-- Serves only the code, which makes a line from its parts (border by its edges, main pens, the sprites on it), in the contracts of
+-- private functions. No public promise cites it: what a line shows is said by Drawing alone.
 use mathlib.Core.Path.{_≡_}
 use mathlib.Core.Bool.{Bool}
 use mathlib.Core.List.{List}

@@ -1,13 +1,13 @@
 // Drawing the current line.
 use chip::Chip;
-use chip::DONE;
-use chip::MODE_THREE;
-use chip::WRONG_LENGTH;
 use crtc::Counters;
 use crtc::Registers;
 use overlay::LineSprite;
 use overlay::LineSprites;
 use overlay::Stretch;
+use words::answer::DONE;
+use words::answer::MODE_THREE;
+use words::answer::WRONG_LENGTH;
 ghost use mathlib.Core.Path.{_≡_};
 ghost use Prim.Native.Nat.{ℕ, _+_, _*_, _%_, _<_, _≤_};
 ghost use lib.ListN.{length};

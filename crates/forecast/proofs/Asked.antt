@@ -5,29 +5,14 @@ use Prim.Native.Nat.{ℕ, _+_}
 use lib.Dec.{eqb}
 use lib.ListN.{length}
 use denote.Ref.{now}
+use Rattle.words.specs.Answers.{done, served}
 use Rattle.words.specs.Choice.{ofBool}
 use Rattle.sound.specs.declared.Report.{Report}
 use Rattle.chip.specs.declared.Chip.{Chip}
+use Rattle.chip.specs.Step.{stepAnswer, stepped}
+use Rattle.runs.specs.Ask.{Ask, asked, answerTo, chipAfter}
 use Rattle.forecast.specs.Demand as demand
-use Rattle.forecast.specs.Demand.{Call, NotWritten, Lent, Run}
-
--- a call other than a line step with its arguments, a lent store among them
-pub data Ask : Type 0 where
-  bc : ℕ → Ask
-  bd : ℕ → Ask
-  gate : ℕ → Ask
-  read : List ℕ → ℕ → ℕ → Ask
-  write : List ℕ → ℕ → ℕ → Ask
-  ack : Ask
-
--- those of a call
-abbrev pub asked : {c d : Chip} {answer : ℕ} → Call c answer d → Ask
-asked (demand.bc b r l e f) = bc b
-asked (demand.bd b r l e f) = bd b
-asked (demand.gate b r l e f) = gate b
-asked (demand.read κs store a bus r l e f) = read (now store) a bus
-asked (demand.write κs store after a b r l e f) = write (now store) a b
-asked (demand.ack r l e f) = ack
+use Rattle.forecast.specs.Demand.{channel, Spares, Lent, Run}
 
 -- a call, or a line step with the RAM lent to it
 pub data Item : Type 0 where
@@ -41,26 +26,20 @@ itemsOf (demand.other answer k alone rest) = call (asked k) ∷ itemsOf rest
 itemsOf (demand.refused κs lent r l e f rest) = step (now lent) ∷ itemsOf rest
 itemsOf (demand.line κs lent r l e has f g rest) = step (now lent) ∷ itemsOf rest
 
--- the premises by the arguments: a page write names neither the channel's start address nor its prescale and keeps its enable, and a
--- line step that is served is lent the words of the list
-abbrev pub Sparing : ℕ → Ask → Type 0
-Sparing n (bc b) = Unit {0}
-Sparing n (bd b) = Unit {0}
-Sparing n (gate b) = Unit {0}
-Sparing n (read store a bus) = Unit {0}
-Sparing n (write store a b) = NotWritten n a b
-Sparing n ack = Unit {0}
-
-abbrev pub Allowed : ℕ → List ℕ → ℕ → List Item → Type 0
-Allowed n ram start [] = Unit {0}
-Allowed n ram start (call x ∷ xs) = Sparing n x × Allowed n ram start xs
-Allowed n ram start (step lent ∷ xs) = (length lent ≡ 65536 → Lent ram start lent) × Allowed n ram start xs
+-- the premises by the arguments, from this chip on: a served call spares the channel, and a served line step is lent the words of
+-- the list
+abbrev pub Allowed : ℕ → List ℕ → ℕ → Chip → List Item → Type 0
+Allowed n ram start c [] = Unit {0}
+Allowed n ram start c (call x ∷ xs) =
+    (answerTo c x ≡ done → Spares n (channel c n) x) × Allowed n ram start (chipAfter c x) xs
+Allowed n ram start c (step lent ∷ xs) =
+    (stepAnswer lent ≡ done → Lent ram start lent) × Allowed n ram start (served (stepAnswer lent) (stepped lent c) c) xs
 
 -- how many line steps among them are served
 abbrev pub servedIn : List Item → ℕ
 servedIn [] = 0
 servedIn (call x ∷ xs) = servedIn xs
-servedIn (step lent ∷ xs) = ofBool (eqb (length lent) 65536) + servedIn xs
+servedIn (step lent ∷ xs) = ofBool (eqb (stepAnswer lent) done) + servedIn xs
 
 -- a run from the chip with these calls
 pub record RunOf (n : ℕ) (ram : List ℕ) (start : ℕ) (c : Chip) (xs : List Item) : Type 0 where

@@ -137,6 +137,7 @@ alone w a lines address t ram long has =
     let room : a + 1 * 2 ≤ 65536 = omega (arith, ltb→lt (a + 1) 65536 (left low on t₃)) in
     let words : wordsOf ram (even a) ≡ w ∷ [] = rw e (listed ram a (w ∷ []) room (has, tt) end) in
     record {
+      answer = answer-served ram a long (rw words (stopped (w ∷ []) end));
       forecast-lines = rw words (eqb→eq _ _ (left sums (both evens (both low on)) t₁));
       then = λ c r. goes-on ram a 0 c r ∙ rw e (eqb→eq _ _ (right low on t₃));
     }

@@ -7,8 +7,6 @@ use native.Mathlib.Omega.{arith}
 use borrow.Author.Tests.{eq-eqb, ne-eqb}
 use lib.Dec.{eqb}
 use lib.ListN.{length, replicate}
-use contract.Lifetimes.{Lfts}
-use denote.Ref.{RefT, now}
 use Rattle.words.specs.Choice.{if}
 use Rattle.sound.specs.declared.Channel.{Channel}
 use Rattle.sound.specs.declared.Report.{Report}
@@ -16,19 +14,13 @@ use Rattle.sound.specs.Line.{soundLine}
 use Rattle.sound.proofs.Laws.{line-cycles}
 use Rattle.chip.specs.declared.Chip.{Chip}
 use Rattle.chip.specs.declared.Stepped.{Stepped}
-use Rattle.chip.specs.Contracts.{served}
+use Rattle.words.specs.Answers.{served}
 use Rattle.chip.specs.Reset.{resetChip}
 use Rattle.chip.specs.State.{withChannels}
 use Rattle.chip.specs.Step.{stepAnswer, idleReport, stepped, Steps}
+use Rattle.runs.proofs.Asks.{lending, lifetime}
 use Rattle.forecast.specs.Rule.{even}
 use Rattle.forecast.specs.Demand.{channel, Ready, Lent, Run, ended, refused, line}
-
--- a buffer as it is lent, and a lifetime
-abbrev pub lending : List ℕ → RefT (List ℕ)
-lending bytes = record { ptr = (0, 0); name = 0; now = bytes }
-
-abbrev pub lifetime : Lfts 1
-lifetime = ([], tt)
 
 -- the answer that a line step promises
 abbrev pub stepOf : List ℕ → Chip → Stepped
@@ -79,25 +71,25 @@ runs-exist n ram start (suc m) c e =
 
 -- a channel that is ready, and a chip with all three so
 abbrev readyChannel : ℕ → ℕ → Channel
-readyChannel start divider =
+readyChannel start prescale =
     record {
       enabled = true;
       interrupt = false;
       address = even start;
-      prescale = divider;
+      prescale = prescale;
       pause = 0;
       count = 0;
       counter = 0;
       mark = 0;
     }
 
-pub ready-chip : (start divider : ℕ) → (c : Chip) × ((n : ℕ) → n < 3 → Ready start divider (channel c n))
-ready-chip start divider = (withChannels resetChip (replicate 3 (readyChannel start divider)), each)
+pub ready-chip : (start prescale : ℕ) → (c : Chip) × ((n : ℕ) → n < 3 → Ready start prescale (channel c n))
+ready-chip start prescale = (withChannels resetChip (replicate 3 (readyChannel start prescale)), each)
   where
-    ready : Ready start divider (readyChannel start divider)
-    ready = record { enabled = refl; address = refl; prescale = refl; pause = refl; counter = refl }
+    ready : Ready start prescale (readyChannel start prescale)
+    ready = record { enabled = refl; address = refl; divides = refl; pause = refl; counter = refl }
 
-    each : (n : ℕ) → n < 3 → Ready start divider (channel (withChannels resetChip (replicate 3 (readyChannel start divider))) n)
+    each : (n : ℕ) → n < 3 → Ready start prescale (channel (withChannels resetChip (replicate 3 (readyChannel start prescale))) n)
     each zero h = ready
     each (suc zero) h = ready
     each (suc (suc zero)) h = ready

@@ -6,7 +6,7 @@ use Prim.Native.Nat.{ℕ, suc, _+_, _*_}
 use native.Mathlib.Omega.{arith}
 use lib.Dec.{ltb}
 use Rattle.words.specs.Choice.{if, both}
-use Rattle.words.specs.Words.{kindOf, low12, stopBit}
+use Rattle.words.specs.Words.{kindOf, isLoad, low12, stopBit}
 use Rattle.words.specs.declared.WordKind.{WordKind}
 use Rattle.words.specs.declared.WordKind.the-variants.{Load, Pause, Repeat, Control, Nothing}
 use Rattle.sound.specs.declared.Channel.{Channel}
@@ -15,7 +15,7 @@ use Rattle.sound.specs.declared.Did.the-variants.{SatOut, Executed}
 use Rattle.sound.specs.declared.Turn.{Turn}
 use Rattle.sound.specs.Channels.{wordAt, withPause, fetched, played, turnOf}
 use Rattle.sound.specs.Line.{ownCycles, channelAfter, didOn}
-use Rattle.forecast.specs.Rule.{isLoad, isPause, isControl, stops, linesOf, cyclesOf, wordsOf, hasStop}
+use Rattle.forecast.specs.Rule.{isPause, isControl, stops, linesOf, cyclesOf, wordsOf, hasStop}
 use Rattle.forecast.specs.Left.{waits, left, linesLeft, cyclesLeft}
 use Rattle.forecast.proofs.Playing.{Playing}
 use Rattle.forecast.specs.Demand.{didStop, Lent}

@@ -97,7 +97,7 @@ module _ (ram : List ℕ) (start n : ℕ) (c : Channel) (ready : Ready start n c
 
   pub ready-lines : linesLeft ram c ≡ linesForecast ram start n
   unfolding linesLeft linesForecast waits
-  ready-lines = rw (ready-left, ready .prescale, ready .pause) (omega arith)
+  ready-lines = rw (ready-left, ready .divides, ready .pause) (omega arith)
 
   pub ready-cycles : cyclesLeft ram c ≡ cyclesForecast ram start
   unfolding cyclesLeft cyclesForecast

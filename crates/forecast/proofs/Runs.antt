@@ -11,27 +11,32 @@ use Rattle.sound.specs.Line.{channelAfter, didOn, didOf}
 use Rattle.sound.proofs.Laws.{line-channel, line-did}
 use Rattle.chip.specs.declared.Chip.{Chip}
 use Rattle.chip.specs.declared.Stepped.{Stepped}
-use Rattle.chip.specs.Contracts.{served}
+use Rattle.words.specs.Answers.{served}
 use Rattle.chip.specs.Channels.{LeftAlone, Aside}
 use Rattle.chip.specs.Step.{stepAnswer, stepped, counted, Steps}
 use Rattle.chip.proofs.ChannelLaws.{aside-self}
-use Rattle.forecast.specs.Demand.{channel, Call, Run, ended, other, refused, line, didOver, Bounded}
-use Rattle.forecast.proofs.Spares.{Effect, effect, changed, unchanged}
+use Rattle.runs.specs.Call.{Call}
+use Rattle.runs.specs.Ask.{Ask, asked, answerTo, servedChip, chipAfter}
+use Rattle.runs.proofs.Asks.{fixed, changed, unchanged}
+use Rattle.forecast.specs.Demand.{channel, Run, ended, other, refused, line, didOver, Bounded}
+use Rattle.forecast.proofs.Spares.{effect}
 use Rattle.forecast.proofs.Trace.{Trace, ended as no-more, aside as call-passes, line as line-passes}
 
 -- a call sets the channel aside
 call-aside :
     {c d : Chip} {answer : ℕ} (n : ℕ) → n < 3 →
     Call c answer d → (answer ≡ 0 → LeftAlone (channel c n) (channel d n)) → Aside (channel c n) (channel d n)
-call-aside {c} {d} {answer} n h k alone = go (effect n h k) (eqb answer 0) refl
+call-aside {c} {d} {answer} n h k alone = go (asked k) (fixed k .answer-is) (fixed k .chip-is) (eqb answer 0) refl
   where
-    go : Effect n k → (t : Bool) → eqb answer 0 ≡ t → Aside (channel c n) (channel d n)
-    go x true e =
+    go :
+        (x : Ask) → answer ≡ answerTo c x → d ≡ chipAfter c x → (t : Bool) → eqb answer 0 ≡ t → Aside (channel c n) (channel d n)
+    go x a e true t =
         record {
-          alone = alone (eqb-true answer 0 e);
-          keeps = rw (x .is ∙ changed answer (x .next) c (eqb-true answer 0 e)) (x .keeps);
+          alone = alone (eqb-true answer 0 t);
+          keeps = rw (e ∙ changed (answerTo c x) (servedChip c x) c (sym a ∙ eqb-true answer 0 t)) (effect n h c x .keeps);
         }
-    go x false e = rw (x .is ∙ unchanged answer (x .next) c (eqb-false answer 0 e)) (aside-self (channel c n))
+    go x a e false t =
+        rw (e ∙ unchanged (answerTo c x) (servedChip c x) c (λ z. eqb-false answer 0 t (a ∙ z))) (aside-self (channel c n))
 
 -- a line step's promise, where it is served and where it is refused
 module _ {c d : Chip} {ram : List ℕ} {r : Stepped} (s : Steps c ram r) (f : r .chip ≡ d) where

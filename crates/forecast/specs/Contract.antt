@@ -2,8 +2,7 @@
 use mathlib.Core.Path.{_≡_}
 use mathlib.Core.List.{List}
 use Prim.Native.Nat.{ℕ}
-use lib.Dec.{eqb}
-use Rattle.words.specs.Choice.{if}
+use Rattle.words.specs.Answers.{done, served}
 use Rattle.forecast.specs.declared.Length.{Length}
 use Rattle.forecast.specs.Demand.{Demand}
 use Rattle.forecast.specs.Rule.{linesForecast, cyclesForecast, answerOf}
@@ -11,6 +10,6 @@ use Rattle.forecast.specs.Rule.{linesForecast, cyclesForecast, answerOf}
 -- the answer; the list's lines and cycles where it is served, else 0; and of a served forecast demand 3, for its own numbers
 pub record Forecasts (ram : List ℕ) (start prescale : ℕ) (r : Length) : Type 0 where
   pub answer : r .answer ≡ answerOf ram start
-  pub lines : r .lines ≡ if (eqb (answerOf ram start) 0) (linesForecast ram start prescale) 0
-  pub cycles : r .cycles ≡ if (eqb (answerOf ram start) 0) (cyclesForecast ram start) 0
-  pub demand : r .answer ≡ 0 → Demand ram start prescale (r .lines) (r .cycles)
+  pub lines : r .lines ≡ served (answerOf ram start) (linesForecast ram start prescale) 0
+  pub cycles : r .cycles ≡ served (answerOf ram start) (cyclesForecast ram start) 0
+  pub demand : r .answer ≡ done → Demand ram start prescale (r .lines) (r .cycles)

@@ -1,4 +1,4 @@
--- Demand 3: the length of a sound list is known before it plays. One claim about every run of calls, in the order of 01, "Sound".
+-- Demand 3: what the forecast says of a sound list holds in every run of calls that plays it. One claim, in the order of 01, "Sound".
 use mathlib.Core.Path.{_≡_}
 use mathlib.Core.Bool.{Bool, true, false}
 use mathlib.Core.List.{List, [], _∷_, map}
@@ -6,7 +6,8 @@ use Prim.Native.Nat.{ℕ, _+_, _-_, _*_, _<_, _≤_}
 use lib.Dec.{leb}
 use lib.ListN.{length, take, getD}
 use contract.Lifetimes.{Lfts}
-use denote.Ref.{RefT, now, at-last}
+use denote.Ref.{RefT, now}
+use Rattle.words.specs.Answers.{done}
 use Rattle.words.specs.Choice.{either, bit}
 use Rattle.words.specs.Words.{stopBit}
 use Rattle.words.specs.declared.WordKind.the-variants.{Load, Pause, Repeat, Control, Nothing}
@@ -17,97 +18,71 @@ use Rattle.sound.specs.declared.Report.{Report}
 use Rattle.sound.specs.Channels.{wordAt}
 use Rattle.sound.specs.Line.{channelOf, didOf, ownCycles}
 use Rattle.chip.specs.declared.Chip.{Chip}
-use Rattle.chip.specs.declared.Answered.{Answered}
-use Rattle.page.specs.declared.ByteRead.{ByteRead}
-use Rattle.chip.specs.declared.Acknowledged.{Acknowledged}
 use Rattle.chip.specs.declared.Stepped.{Stepped}
 use Rattle.chip.specs.Channels.{LeftAlone}
-use Rattle.chip.proofs.ports.write_bc.Reads as write-bc
-use Rattle.chip.proofs.ports.write_bd.Reads as write-bd
-use Rattle.chip.proofs.ports.write_7f.Reads as write-7f
-use Rattle.page.proofs.page_read.Reads as page-read
-use Rattle.page.proofs.page_write.Reads as page-write
-use Rattle.chip.proofs.acknowledge.acknowledge.Reads as acknowledge
 use Rattle.chip.proofs.line.step.Reads as step
+use Rattle.runs.specs.Call.{Call}
+use Rattle.runs.specs.Ask.{Ask, bc, bd, gate, read, write, ack}
 use Rattle.forecast.specs.Rule.{even, wordsOf}
 
--- ---- a run is any list of these calls: BCxx, 6845 data and 7Fxx writes, page reads and writes, acknowledges, line steps
+-- ---- the calls of a run are line steps, and the calls of `Call` in the crate `runs`: port writes, page reads and writes, acknowledges
 
 -- channel n of the chip
 abbrev pub channel : Chip → ℕ → Channel
 channel c n = channelOf (c .sound .channels) n
 
--- a call other than a line step, whatever its arguments and buffers, from the chip c: its answer, and the chip d after it. What it
--- did is known by its contract alone, as a caller learns it
-pub data Call (c : Chip) (answer : ℕ) (d : Chip) : Type 0 where
-  bc :
-      (b : ℕ) (r : Answered) →
-      write-bc.Learnt tt (c, (b, tt)) r (c, (b, tt)) → r .answer ≡ answer → r .chip ≡ d → Call c answer d
-  bd :
-      (b : ℕ) (r : Answered) →
-      write-bd.Learnt tt (c, (b, tt)) r (c, (b, tt)) → r .answer ≡ answer → r .chip ≡ d → Call c answer d
-  gate :
-      (b : ℕ) (r : Answered) →
-      write-7f.Learnt tt (c, (b, tt)) r (c, (b, tt)) → r .answer ≡ answer → r .chip ≡ d → Call c answer d
-  read :
-      (κs : Lfts 1) (store : RefT (List ℕ)) (a bus : ℕ) (r : ByteRead) →
-      page-read.Learnt κs (c, (store, (a, (bus, tt)))) r (c, (store, (a, (bus, tt)))) →
-      r .answer ≡ answer → r .chip ≡ d → Call c answer d
-  write :
-      (κs : Lfts 1) (store : RefT (List ℕ)) (after : List ℕ) (a b : ℕ) (r : Answered) →
-      page-write.Learnt κs (c, (store, (a, (b, tt)))) r (c, (at-last store after, (a, (b, tt)))) →
-      r .answer ≡ answer → r .chip ≡ d → Call c answer d
-  ack : (r : Acknowledged) → acknowledge.Learnt tt (c, tt) r (c, tt) → r .answer ≡ answer → r .chip ≡ d → Call c answer d
-
--- ---- what a call of a run may not write, by the address: a byte b at a page address a is none of channel n's start address low
--- (6C00h + 4n) and high (+ 1) or prescale (+ 2), and one to DCSR (6C0Fh) has bit n set, so that the channel stays enabled
-pub record NotWritten (n a b : ℕ) : Type 0 where
-  pub low : a ≡ 0x6c00 + 4 * n → ⊥
-  pub high : a ≡ 0x6c00 + 4 * n + 1 → ⊥
-  pub prescale : a ≡ 0x6c00 + 4 * n + 2 → ⊥
-  pub enable : a ≡ 0x6c0f → bit n b ≡ true
-
--- only a page write can name the channel; a call that spares it leaves it alone, as a run asks below
-abbrev pub Spares : {c d : Chip} {answer : ℕ} → ℕ → Call c answer d → Type 0
-Spares n (bc b r l e f) = Unit {0}
-Spares n (bd b r l e f) = Unit {0}
-Spares n (gate b r l e f) = Unit {0}
-Spares n (read κs store a bus r l e f) = Unit {0}
-Spares n (write κs store after a b r l e f) = NotWritten n a b
-Spares n (ack r l e f) = Unit {0}
-
--- ---- it starts from any chip with the channel as demanded: enabled, at the even start and the prescale of the forecast, with no
--- pause and no loop; line count and mark are free
-pub record Ready (start divider : ℕ) (c : Channel) : Type 0 where
+-- ---- a run starts from any chip with the channel so: enabled, at the even start and the prescale of the forecast, with no pause and
+-- no loop; line count and mark are free
+pub record Ready (start prescale : ℕ) (c : Channel) : Type 0 where
   pub enabled : c .enabled ≡ true
   pub address : c .address ≡ even start
-  pub prescale : c .prescale ≡ divider
+  pub divides : c .prescale ≡ prescale
   pub pause : c .pause ≡ 0
   pub counter : c .counter ≡ 0
 
--- ---- each served line step is lent RAM that has the words of the list at an even start, through its first STOP
+-- ---- a served line step is lent RAM that has the words of the list at an even start, through its first STOP
 pub record Lent (ram : List ℕ) (start : ℕ) (lent : List ℕ) : Type 0 where
   pub words : (i : ℕ) → i < length (wordsOf ram start) → wordAt lent (start + i * 2) ≡ wordAt ram (start + i * 2)
 
--- ---- the run itself, for channel n and the list at a start: each call gets the chip that the last one left. No served call but a
--- line step writes the channel's start address or prescale or clears its enable: `LeftAlone` says so by the effect, that the address
--- and the prescale are as before and an enable that was set is still set. `reports` are those of the served line steps, in order
+-- ---- what a served call other than a line step must not do to channel n, the channel d before it. By its arguments:
+
+-- a page write of the byte b to the address a goes neither to the channel's start address, low (6C00h + 4n) or high (+ 1), nor to its
+-- prescale (+ 2); and if it goes to DCSR (6C0Fh) while the channel is enabled, bit n is set
+pub record NotWritten (n : ℕ) (d : Channel) (a b : ℕ) : Type 0 where
+  pub low : a ≡ 0x6c00 + 4 * n → ⊥
+  pub high : a ≡ 0x6c00 + 4 * n + 1 → ⊥
+  pub prescale : a ≡ 0x6c00 + 4 * n + 2 → ⊥
+  pub enable : a ≡ 0x6c0f → d .enabled ≡ true → bit n b ≡ true
+
+-- no other call can name the channel
+abbrev pub Spares : ℕ → Channel → Ask → Type 0
+Spares n d (bc b) = Unit {0}
+Spares n d (bd b) = Unit {0}
+Spares n d (gate b) = Unit {0}
+Spares n d (read store a bus) = Unit {0}
+Spares n d (write store a b) = NotWritten n d a b
+Spares n d ack = Unit {0}
+
+-- ---- the run, for channel n and the list at a start: each call gets the chip that the last one left. What the calls between the lines
+-- must not do is asked by its effect, `LeftAlone`: address and prescale are as before, and an enable that was set still is. A law says
+-- that a served call which spares the channel by its arguments does so. `reports` are those of the served line steps, in order
 pub data Run (n : ℕ) (ram : List ℕ) (start : ℕ) : Chip → List Report → Chip → Type 0 where
   ended : {c : Chip} → Run n ram start c [] c
   other :
       {c d e : Chip} {reports : List Report} (answer : ℕ) →
-      Call c answer d → (answer ≡ 0 → LeftAlone (channel c n) (channel d n)) → Run n ram start d reports e → Run n ram start c reports e
+      Call c answer d → (answer ≡ done → LeftAlone (channel c n) (channel d n)) → Run n ram start d reports e →
+      Run n ram start c reports e
   refused :
       {c d e : Chip} {reports : List Report} (κs : Lfts 1) (lent : RefT (List ℕ)) (r : Stepped) →
       step.Learnt κs (c, (lent, tt)) r (c, (lent, tt)) →
-      (r .answer ≡ 0 → ⊥) → r .chip ≡ d → Run n ram start d reports e → Run n ram start c reports e
+      (r .answer ≡ done → ⊥) → r .chip ≡ d → Run n ram start d reports e → Run n ram start c reports e
   line :
       {c d e : Chip} {report : Report} {reports : List Report} (κs : Lfts 1) (lent : RefT (List ℕ)) (r : Stepped) →
       step.Learnt κs (c, (lent, tt)) r (c, (lent, tt)) →
-      r .answer ≡ 0 → Lent ram start (now lent) → r .chip ≡ d → r .report ≡ report →
+      r .answer ≡ done → Lent ram start (now lent) → r .chip ≡ d → r .report ≡ report →
       Run n ram start d reports e → Run n ram start c (report ∷ reports) e
 
--- ---- a channel executes what the step reports; its own cycles on a line are its fetch and its word's cost, or 0
+-- ---- what the channel executed is what the steps report of it; `ownCycles` of a report is what it cost the channel itself
 
 -- what channel n did on each served line
 abbrev pub didOver : ℕ → List Report → List Did
@@ -151,9 +126,9 @@ Bounded [] = Unit {0}
 Bounded (r ∷ rs) = (r .cycles ≤ 28) × Bounded rs
 
 -- ---- demand 3: so for each of the three channels, whatever the others play, and for every run
-pub record Demand (ram : List ℕ) (start divider lines cycles : ℕ) : Type 0 where
+pub record Demand (ram : List ℕ) (start prescale lines cycles : ℕ) : Type 0 where
   pub foretold :
       (n : ℕ) → n < 3 → (c d : Chip) (reports : List Report) →
-      Ready start divider (channel c n) → Run n ram (even start) c reports d → Foretold lines cycles (didOver n reports)
+      Ready start prescale (channel c n) → Run n ram (even start) c reports d → Foretold lines cycles (didOver n reports)
   pub bounded :
       (n : ℕ) (c d : Chip) (reports : List Report) → Run n ram (even start) c reports d → Bounded reports

@@ -3,6 +3,7 @@ use mathlib.Core.Path.{_≡_}
 use mathlib.Core.List.{List, [], _∷_}
 use Prim.Native.Nat.{ℕ, _+_, _*_, _/_, _%_, _<_, _≤_}
 use lib.ListN.{length, getD}
+use Rattle.words.specs.Answers.{done}
 use Rattle.sound.specs.declared.Channel.{Channel}
 use Rattle.sound.specs.Channels.{wordAt}
 use Rattle.sound.specs.Line.{channelAfter}
@@ -45,12 +46,13 @@ Has ram a (w ∷ ws) = (wordAt ram a ≡ w) × Has ram (a + 2) ws
 
 -- a forecast row: for every RAM of 65,536 bytes that has these words at an even start, the forecast is served with these numbers
 pub record Forecast (ws : List ℕ) (prescale lines cycles : ℕ) (ram : List ℕ) (start : ℕ) : Type 0 where
-  pub answer : answerOf ram start ≡ 0
+  pub answer : answerOf ram start ≡ done
   pub forecast-lines : linesForecast ram start prescale ≡ lines
   pub forecast-cycles : cyclesForecast ram start ≡ cycles
 
--- the list of one word: its forecast, and the channel after the line on which it is played
+-- the list of one word: its forecast, which is served, and the channel after the line on which it is played
 pub record End (w a lines address : ℕ) (ram : List ℕ) : Type 0 where
+  pub answer : answerOf ram a ≡ done
   pub forecast-lines : linesForecast ram a 0 ≡ lines
   pub then : (c : Channel) → Ready a 0 c → channelAfter ram c .address ≡ address
 

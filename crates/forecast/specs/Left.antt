@@ -1,5 +1,5 @@
--- What is left of a list while a channel plays it: the lines to its STOP, from the channel's address, pause, line count,
--- loop counter and mark with RAM and the prescale, and nothing else.
+-- What is left of a list while a channel plays it: lines to its STOP, and cycles. Of the channel only the address, the prescale and what
+-- counts (pause with its line count, loop counter with its mark) are used, and RAM.
 use mathlib.Core.Path.{_≡_}
 use mathlib.Core.Bool.{true, false}
 use mathlib.Core.List.{List}
@@ -10,8 +10,8 @@ use Rattle.sound.specs.Channels.{wordAt}
 use Rattle.sound.specs.declared.Channel.{Channel}
 use Rattle.forecast.specs.Rule.{stops, loops, repeats, linesOf, cyclesOf, wordsOf, closes, total}
 
--- the lines that a pause still sits out before the next word: each but the last of it a whole prescale + 1 lines, the last one
--- less what is counted already
+-- the lines that a pause still sits out before the next word. With p + 1 to go, p of them are prescale + 1 lines each; the one that is
+-- running has prescale less its line count, since on the line that would be its last the next word is executed
 unfoldable pub waits : ℕ → ℕ → ℕ → ℕ
 waits prescale zero count = 0
 waits prescale (suc p) count = p * (prescale + 1) + (prescale - count)

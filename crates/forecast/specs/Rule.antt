@@ -5,19 +5,13 @@ use Prim.Native.Nat.{ℕ, zero, suc, _+_, _-_, _*_, _/_}
 use lib.Dec.{eqb, ltb}
 use lib.ListN.{length, take, drop}
 use Rattle.words.specs.Choice.{if, both, either}
-use Rattle.words.specs.Words.{kindOf, low12, loopBit, stopBit}
+use Rattle.words.specs.Answers.{done, wrongLength, noStop}
+use Rattle.words.specs.Words.{kindOf, isLoad, low12, loopBit, stopBit}
 use Rattle.words.specs.declared.WordKind.{WordKind}
 use Rattle.words.specs.declared.WordKind.the-variants.{Load, Pause, Repeat, Control, Nothing}
 use Rattle.sound.specs.Channels.{wordAt}
 
 -- a word's kind, asked
-abbrev pub isLoad : WordKind → Bool
-isLoad Load = true
-isLoad Pause = false
-isLoad Repeat = false
-isLoad Control = false
-isLoad Nothing = false
-
 abbrev pub isPause : WordKind → Bool
 isPause Load = false
 isPause Pause = true
@@ -103,8 +97,8 @@ cyclesForecast ram start = total cyclesOf 0 (wordsOf ram (even start))
 -- 1 for RAM of another length, 6 where no STOP stands from the start to FFFEh, exactly then
 unfoldable pub answerOf : List ℕ → ℕ → ℕ
 answerOf ram start =
-    if (eqb (length ram) 65536) (if (hasStop (wordsOf ram (even start))) 0 6) 1
+    if (eqb (length ram) 65536) (if (hasStop (wordsOf ram (even start))) done noStop) wrongLength
 
--- the list itself, from its first byte through its STOP
+-- the bytes of the list, those of its STOP with them
 unfoldable pub listOf : List ℕ → ℕ → List ℕ
 listOf ram start = take (length (wordsOf ram (even start)) * 2) (drop (even start) ram)

@@ -1,14 +1,13 @@
 // The forecast of a sound list: its lines and cycles before it plays.
-use chip::DONE;
-use chip::NO_STOP;
-use chip::WRONG_LENGTH;
 use words::WordKind;
+use words::answer::DONE;
+use words::answer::NO_STOP;
+use words::answer::WRONG_LENGTH;
 ghost use mathlib.Core.Path.{_≡_};
 ghost use mathlib.Core.List.{[]};
 ghost use Prim.Native.Nat.{_^_, _≤_};
-ghost use lib.Dec.{eqb};
-ghost use Rattle.words.specs.Choice.{if};
-ghost use Rattle.forecast.specs.Rule.{isLoad, isPause, isRepeat, isControl, repeats, loops, stops};
+ghost use Rattle.words.specs.Answers.{served};
+ghost use Rattle.forecast.specs.Rule.{isPause, isRepeat, isControl, repeats, loops, stops};
 ghost use Rattle.forecast.specs.Rule.{linesOf, cyclesOf, openCount, answerOf, listOf};
 ghost use Rattle.forecast.specs.Contract.{Forecasts};
 ghost use Rattle.forecast.specs.Pass.{added, passed, Room, Open, bytesFrom};
@@ -24,19 +23,6 @@ pub struct Length {
     pub answer: u8,
     pub lines: u64,
     pub cycles: u64,
-}
-
-// Whether the kind is that of a LOAD.
-fn is_load(kind: WordKind) -> bool
-    ensures { λ r. ⌜ r ≡ isLoad kind ⌝ }
-{
-    match kind {
-        WordKind::Load => true,
-        WordKind::Pause => false,
-        WordKind::Repeat => false,
-        WordKind::Control => false,
-        WordKind::Nothing => false,
-    }
 }
 
 // Whether the kind is that of a PAUSE.
@@ -117,7 +103,7 @@ fn lines_of(word: u16, prescale: u8) -> u64
 fn cycles_of(word: u16) -> u64
     ensures { λ r. ⌜ r ≡ cyclesOf word ⌝ }
 {
-    if is_load(words::kind_of(word)) {
+    if words::is_load(words::kind_of(word)) {
         return 9;
     }
     2
@@ -252,9 +238,9 @@ fn bytes_from(ram: &[u8], first: usize) -> usize
     0
 }
 
-// The list itself, from its first byte through its STOP; empty where the forecast is refused.
+// The bytes of the list, its STOP with them, as a part of RAM; empty where the forecast is refused.
 pub fn list(ram: &[u8], start: u16) -> &[u8]
-    ensures { λ r. ⌜ now r ≡ if (eqb (answerOf (now (ram .entry)) start) 0) (listOf (now (ram .entry)) start) [] ⌝ }
+    ensures { λ r. ⌜ now r ≡ served (answerOf (now (ram .entry)) start) (listOf (now (ram .entry)) start) [] ⌝ }
 {
     if ram.len() != RAM_BYTES {
         return &ram[..0];

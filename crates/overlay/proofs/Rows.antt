@@ -11,7 +11,7 @@ use lib.IntN.{ℤ, pos, negsuc, _-ℤ_}
 use lib.ListN.{getD}
 use Rattle.words.specs.Choice.{if}
 use Rattle.picture.specs.declared.sprite.Sprite.{Sprite}
-use Rattle.picture.specs.SpriteLine.{scaleOf, yScale, xScale, across, pixelAt}
+use Rattle.picture.specs.SpriteLine.{scaleOf, yScale, xScale, cellAt, pixelAt}
 use Rattle.overlay.specs.declared.LineSprite.{LineSprite}
 use Rattle.overlay.specs.Overlay.{within, pixelOn, noLineSprite, Cell, Row}
 use Rattle.words.proofs.Order.{either-side}
@@ -28,7 +28,7 @@ no-span : (d : ℤ) (f : ℕ → ℕ) → within 0 d f ≡ 0
 no-span (pos n) f = rw (le-ltb n 0 (omega arith))
 no-span (negsuc n) f = refl
 
-zero-all : (scale : ℕ) (d : ℤ) → across scale d (λ n. 0) ≡ 0
+zero-all : (scale : ℕ) (d : ℤ) → cellAt scale d (λ n. 0) ≡ 0
 zero-all zero d = refl
 zero-all (suc m) (pos d) = elim (ltb (d / suc m) 16) as (λ t. _≡_ {A = ℕ} (if t 0 0) 0) [ true ↦ refl | false ↦ refl ]
 zero-all (suc m) (negsuc d) = refl
@@ -52,12 +52,12 @@ test-same d m =
     (λ h. le-ltb (d / suc m) 16 (le-div-iff-mul-le {k = suc m} {x = 16} {y = d} (omega arith) .1 h) ∙ sym (le-ltb d (16 * suc m) h))
 
 -- a sprite covers 16 times its magnification, and a column is 4 quarters
-spans-by : (m q : ℕ) (d : ℤ) (f : ℕ → ℕ) → ((n : ℕ) → n * q / 4 ≡ n / suc m) → across (suc m) d f ≡ within (16 * suc m) d (λ n. f (n * q / 4))
+spans-by : (m q : ℕ) (d : ℤ) (f : ℕ → ℕ) → ((n : ℕ) → n * q / 4 ≡ n / suc m) → cellAt (suc m) d f ≡ within (16 * suc m) d (λ n. f (n * q / 4))
 spans-by m q (negsuc d) f same = refl
 spans-by m q (pos d) f same = rw (same d, test-same d m)
 
 spans : (code : ℕ) (d : ℤ) (f : ℕ → ℕ) → (scaleOf code ≡ 0 → ⊥) →
-    across (scaleOf code) d f ≡ within (16 * scaleOf code) d (λ n. f (n * (4 / scaleOf code) / 4))
+    cellAt (scaleOf code) d f ≡ within (16 * scaleOf code) d (λ n. f (n * (4 / scaleOf code) / 4))
 spans zero d f h = absurd (h refl)
 spans (suc zero) d f h = spans-by 0 4 d f (λ n. omega arith)
 spans (suc (suc zero)) d f h = spans-by 1 2 d f (λ n. omega arith)
@@ -78,7 +78,7 @@ module _ (s : Sprite) (n y : ℕ) where
 
   -- by the row that the code finds at the magnification `down`
   module _ {down row : ℕ} (is-down : down ≡ yScale s) (on : down ≡ 0 → ⊥) (cell : Cell (16 * down) (4 / down) (pos y -ℤ s .y) row) where
-    row-gives : (f : ℕ → ℕ) → across (yScale s) (pos y -ℤ s .y) f ≡ if (eqb row 4294967295) 0 (f row)
+    row-gives : (f : ℕ → ℕ) → cellAt (yScale s) (pos y -ℤ s .y) f ≡ if (eqb row 4294967295) 0 (f row)
     row-gives f =
         spans (s .magnification % 4) (pos y -ℤ s .y) f (rw is-down at on) ∙ (rw is-down at (cell .gives f))
 

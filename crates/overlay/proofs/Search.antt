@@ -11,9 +11,10 @@ use lib.Dec.{eqb, eqb·suc-zero}
 use lib.ListN.{length, getD, set}
 use lib.Seq.{getD-set-same, getD-set-other}
 use Rattle.words.specs.Choice.{if}
+use Rattle.picture.specs.Sprites.{offSprite}
 use Rattle.picture.specs.declared.sprite.Sprite.{Sprite}
 use Rattle.overlay.specs.declared.LineSprite.{LineSprite}
-use Rattle.overlay.specs.Overlay.{firstOf, firstPixel, noSprite, pixelOn, firstOn, noLineSprite, keptOf, Row}
+use Rattle.overlay.specs.Overlay.{firstOf, firstPixel, pixelOn, firstOn, noLineSprite, keptOf, Row}
 use Rattle.words.proofs.Order.{either-side}
 use Rattle.overlay.proofs.Rows.{hidden}
 
@@ -55,7 +56,7 @@ shows-none = record { shows = λ store x. refl }
 
 pub shows-more :
     {sprites : List Sprite} {y n : ℕ} {list : List LineSprite} {count : ℕ} {e : LineSprite} {more : ℕ} →
-    ShowsFirst sprites y n list count → Row (getD sprites n noSprite) n y e → more ≡ keptOf e → count < length list →
+    ShowsFirst sprites y n list count → Row (getD sprites n offSprite) n y e → more ≡ keptOf e → count < length list →
     ShowsFirst sprites y (n + 1) (set list count e) (count + more)
 unfolding firstPixel
 shows-more {sprites} {y} {n} {list} {count} {e} before row counted room =

@@ -1,4 +1,5 @@
--- 01, "Drawing the current line": the pixel of the lowest-numbered sprite, and the sprites that a line can show as the code keeps them.
+-- 01, "Drawing the current line": the pixel of the lowest-numbered sprite. The second half serves only the code, which keeps the
+-- sprites that a line can show in a list of its own.
 use mathlib.Core.Path.{_≡_}
 use mathlib.Core.List.{List}
 use Prim.Native.Nat.{ℕ, zero, suc, _+_, _*_, _/_, _%_, _<_, _≤_}
@@ -6,6 +7,7 @@ use lib.Dec.{eqb, ltb}
 use lib.IntN.{ℤ, pos, negsuc, _-ℤ_}
 use lib.ListN.{getD}
 use Rattle.words.specs.Choice.{if}
+use Rattle.picture.specs.Sprites.{offSprite}
 use Rattle.picture.specs.SpriteLine.{pixelAt}
 use Rattle.picture.specs.declared.sprite.Sprite.{Sprite}
 use Rattle.overlay.specs.declared.LineSprite.{LineSprite}
@@ -16,13 +18,11 @@ abbrev pub firstOf : (ℕ → ℕ) → ℕ → ℕ
 firstOf f zero = 0
 firstOf f (suc n) = if (eqb (firstOf f n) 0) (f n) (firstOf f n)
 
--- a sprite that is off, at 0, 0
-abbrev pub noSprite : Sprite
-noSprite = record { x = pos 0; y = pos 0; magnification = 0 }
-
 -- the pixel at line y and position x: that of the lowest-numbered of n sprites that has one that is not 0
 unfoldable pub firstPixel : List ℕ → List Sprite → ℕ → ℕ → ℕ → ℕ
-firstPixel store sprites y x n = firstOf (λ k. pixelAt store k (getD sprites k noSprite) y x) n
+firstPixel store sprites y x n = firstOf (λ k. pixelAt store k (getD sprites k offSprite) y x) n
+
+-- ---- from here on the sprites on a line as the code keeps them; the promise of drawing cites none of it
 
 -- by the distance from the edge, which is signed: what the function gives inside the span, and 0 outside
 abbrev pub within : ℕ → ℤ → (ℕ → ℕ) → ℕ

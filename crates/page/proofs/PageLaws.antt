@@ -65,9 +65,10 @@ page-leaves c Dcsr b n h = rw (dcsr-channel (c .sound .channels) b n h) (kept (c
 page-leaves c Status b n h = kept (channelOf (c .sound .channels) n)
 page-leaves c Empty b n h = kept (channelOf (c .sound .channels) n)
 
--- a write to a register that is not channel n's, and not DCSR with bit n clear, leaves its address, prescale and a set enable
+-- a write to a register that is not channel n's, and not DCSR with bit n clear while it is enabled, leaves its address, prescale and
+-- a set enable
 pub page-alone : (c : Chip) (x : Register) (b n : ℕ) → n < 3 →
-    ((r : ChannelRegister) → x ≡ ChannelAt n r → ⊥) → (x ≡ Dcsr → bit n b ≡ true) →
+    ((r : ChannelRegister) → x ≡ ChannelAt n r → ⊥) → (x ≡ Dcsr → channelOf (c .sound .channels) n .enabled ≡ true → bit n b ≡ true) →
     LeftAlone (channelOf (c .sound .channels) n) (channelOf (registerWritten c x b .sound .channels) n)
 page-alone c (Pixel i) b n h own control = alone-self _
 page-alone c (Sprite k p) b n h own control = alone-self _
@@ -79,6 +80,6 @@ page-alone c (ChannelAt m r) b n h own control =
     rw (getD-set-other (c .sound .channels) m n _ offChannel (λ e. own r (ap (λ k. ChannelAt k r) (sym e)))) (alone-self _)
 page-alone c Dcsr b n h own control =
     rw (dcsr-channel (c .sound .channels) b n h)
-    (record { address = refl; prescale = refl; enabled = λ e. control refl })
+    (record { address = refl; prescale = refl; enabled = control refl })
 page-alone c Status b n h own control = alone-self _
 page-alone c Empty b n h own control = alone-self _

@@ -14,8 +14,8 @@ use Rattle.page.specs.declared.address.Register.the-variants.{Pixel, Spr
 unfoldable pub spriteAt : ℕ → Register
 spriteAt o = if (leb 5 (o % 8)) Empty (Sprite (o / 8) (o % 8))
 
--- 6800h PRI, 6801h split line, 6802h and 6803h split address high and low, 6804h SSCR, 6805h IVR; nothing at 6806h and 6807h; the
--- converters from 6808h to 680Fh
+-- from 6800h on: PRI, the split's line, the high and the low byte of its address, SSCR, IVR; nothing at 6806h and 6807h; then, up to
+-- 680Fh, the converters
 unfoldable pub videoAt : ℕ → Register
 videoAt o =
     if (eqb o 0) (Video Pri)

@@ -2,7 +2,7 @@
 use mathlib.Core.Path.{_≡_}
 use mathlib.Core.Bool.{Bool, true, false}
 use mathlib.Core.List.{List, [], _∷_}
-use Prim.Native.Nat.{ℕ, _+_, _-_, _*_, _/_, _%_, _≤_}
+use Prim.Native.Nat.{ℕ, _+_, _-_, _*_, _/_, _%_}
 use lib.Dec.{eqb, leb, ltb}
 use lib.ListN.{length, getD, set}
 use Rattle.words.specs.Choice.{if, both, bit}
@@ -11,7 +11,7 @@ use Rattle.sound.specs.Channels.{withAddress, withFlags}
 use Rattle.sound.specs.Line.{channelOf}
 use Rattle.crtc.specs.declared.Video.{Video}
 use Rattle.picture.specs.declared.sprite.Sprite.{Sprite}
-use Rattle.picture.specs.Sprites.{written, shown}
+use Rattle.picture.specs.Sprites.{offSprite, written, shown}
 use Rattle.picture.specs.Palette.{keptByte}
 use Rattle.chip.specs.declared.Chip.{Chip}
 use Rattle.chip.specs.declared.Answered.{Answered}
@@ -23,8 +23,8 @@ use Rattle.page.specs.declared.address.ChannelRegister.the-variants.{Sta
 use Rattle.page.specs.declared.address.Register.{Register}
 use Rattle.page.specs.declared.address.Register.the-variants.{Pixel, Sprite as SpriteAt, Palette, Video as VideoAt, Ivr, Converter, Channel as ChannelAt, Dcsr, Status, Empty}
 use Rattle.chip.specs.State.{withVideo, withSprites, withPalette, withChannels, withIvr}
-use Rattle.chip.specs.Contracts.{done, wrongLength, notMapped, nothingThere, served, Answers}
-use Rattle.chip.specs.Reset.{offSprite}
+use Rattle.words.specs.Answers.{done, wrongLength, notMapped, nothingThere, served}
+use Rattle.chip.specs.Contracts.{Answers}
 use Rattle.page.specs.Address.{registerAt}
 
 -- the pixel store has 4,096 bytes; the page is 4000h to 7FFFh, while mapped. The rest is as given
@@ -115,8 +115,8 @@ channelWritten d Prescale b =
       mark = d .mark;
     }
 
-abbrev pub startWritten : List Channel → ℕ → ChannelRegister → ℕ → List Channel
-startWritten cs n r b = set cs n (channelWritten (channelOf cs n) r b)
+abbrev pub channelsWritten : List Channel → ℕ → ChannelRegister → ℕ → List Channel
+channelsWritten cs n r b = set cs n (channelWritten (channelOf cs n) r b)
 
 -- a DCSR write sets channel n's enable from bit n, and a 1 in bit 6 - n clears its interrupt
 abbrev pub controlWritten : ℕ → ℕ → Channel → Channel
@@ -134,7 +134,7 @@ registerWritten c (Palette i) b = withPalette c (set (c .palette) i (keptByte i 
 registerWritten c (VideoAt v) b = withVideo c (videoWritten (c .video) v b)
 registerWritten c Ivr b = withIvr c b
 registerWritten c Converter b = c
-registerWritten c (ChannelAt n r) b = withChannels c (startWritten (c .sound .channels) n r b)
+registerWritten c (ChannelAt n r) b = withChannels c (channelsWritten (c .sound .channels) n r b)
 registerWritten c Dcsr b = withChannels c (dcsrWritten (c .sound .channels) b)
 registerWritten c Status b = c
 registerWritten c Empty b = c
@@ -160,11 +160,6 @@ pub record Writes (c : Chip) (store : List ℕ) (a b : ℕ) (after : List ℕ) (
 -- a weight if the test holds, else 0
 abbrev pub flag : Bool → ℕ → ℕ
 flag b weight = if b weight 0
-
--- what `flag` promises: its value, which is no more than the weight
-pub record Flagged (b : Bool) (weight r : ℕ) : Type 0 where
-  pub value : r ≡ flag b weight
-  pub bound : r ≤ weight
 
 -- DCSR: bit 7 if the last acknowledge was raster, bits 6, 5, 4 the interrupts of channels 0, 1, 2, bit 3 zero, bits 2-0 the enables
 unfoldable pub dcsr : Chip → ℕ

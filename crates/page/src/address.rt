@@ -83,8 +83,8 @@ fn channel_at(offset: u16) -> Register
     }
 }
 
-// Below 6000h.
-fn pixel_at(address: u16) -> Register
+// Below 6000h: a pixel, or nothing.
+fn pixel_or_empty(address: u16) -> Register
     requires { ⌜ address < 0x6000 ⌝ }
     ensures { λ r. ⌜ Decodes (registerAt address) r ⌝ }
 {
@@ -102,7 +102,7 @@ pub fn register_at(address: u16) -> Register
     ensures { λ r. ⌜ Decodes (registerAt address) r ⌝ }
 {
     if address < 0x6000 {
-        return pixel_at(address);
+        return pixel_or_empty(address);
     }
     if address < 0x6080 {
         return sprite_at(address - 0x6000);

@@ -6,14 +6,14 @@ use crate::address::Register;
 use crate::address::VideoRegister;
 use chip::Answered;
 use chip::Chip;
-use chip::DONE;
-use chip::NOT_MAPPED;
-use chip::NOTHING_THERE;
-use chip::WRONG_LENGTH;
 use crtc::Video;
 use picture::sprite::Sprite;
 use sound::Channel;
 use sound::Sound;
+use words::answer::DONE;
+use words::answer::NOT_MAPPED;
+use words::answer::NOTHING_THERE;
+use words::answer::WRONG_LENGTH;
 ghost use mathlib.Core.Path.{_≡_};
 ghost use Prim.Native.Nat.{_<_, _≤_};
 ghost use lib.ListN.{length, set, getD};
@@ -21,12 +21,12 @@ ghost use lib.Dec.{ltb};
 ghost use mathlib.Core.Bool.{false};
 ghost use Rattle.words.specs.Choice.{if};
 ghost use Rattle.sound.specs.Channels.{withFlags};
-ghost use Rattle.picture.specs.Sprites.{shown};
+ghost use Rattle.picture.specs.Sprites.{offSprite, shown};
 ghost use Rattle.picture.specs.Palette.{keptByte};
-ghost use Rattle.chip.specs.Contracts.{done, nothingThere};
-ghost use Rattle.chip.specs.Reset.{offSprite};
+ghost use Rattle.words.specs.Answers.{done, nothingThere};
 ghost use Rattle.page.specs.Address.{Within};
-ghost use Rattle.page.specs.Page.{writable, pageAnswer, readAnswer, writeAnswer, spriteWritten, videoWritten, channelWritten, startWritten, dcsrWritten, registerWritten, Writes, flag, Flagged, dcsr, registerRead, Reads};
+ghost use Rattle.page.specs.Page.{writable, pageAnswer, readAnswer, writeAnswer, spriteWritten, videoWritten, channelWritten, channelsWritten, dcsrWritten, registerWritten, Writes, dcsr, registerRead, Reads};
+ghost use Rattle.page.specs.Flags.{Flagged};
 
 // A page read's answer: the number, the chip, the byte.
 #[repr(C)]
@@ -172,9 +172,9 @@ fn control_written(channel: Channel, enable: bool, clear: bool) -> Channel
 }
 
 // The sound state with one start address or prescale written.
-fn start_written(mut sound: Sound, n: usize, which: ChannelRegister, byte: u8) -> Sound
+fn channels_written(mut sound: Sound, n: usize, which: ChannelRegister, byte: u8) -> Sound
     requires { ⌜ n < 3 ⌝ }
-    ensures { λ r. ⌜ r ≡ record { channels = startWritten (sound .channels) n which byte; psg = sound .psg } ⌝ }
+    ensures { λ r. ⌜ r ≡ record { channels = channelsWritten (sound .channels) n which byte; psg = sound .psg } ⌝ }
 {
     let mut channels = sound.channels;
     let channel = channels[n];
@@ -225,7 +225,7 @@ fn register_written(mut chip: Chip, register: Register, byte: u8) -> Chip
         }
         Register::Converter => chip,
         Register::Channel(n, which) => {
-            chip.sound = start_written(chip.sound, n, which, byte);
+            chip.sound = channels_written(chip.sound, n, which, byte);
             chip
         }
         Register::Dcsr => {

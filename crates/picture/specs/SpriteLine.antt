@@ -23,13 +23,13 @@ yScale s = scaleOf (s .magnification % 4)
 
 -- by the distance from the sprite's edge, which is signed, at a scale: what the function gives for the row or column there, if the
 -- distance is at least 0 and the result below 16; with the scale off, and outside, nothing
-abbrev pub across : ℕ → ℤ → (ℕ → ℕ) → ℕ
-across zero d f = 0
-across (suc m) (pos d) f = if (ltb (d / suc m) 16) (f (d / suc m)) 0
-across (suc m) (negsuc d) f = 0
+abbrev pub cellAt : ℕ → ℤ → (ℕ → ℕ) → ℕ
+cellAt zero d f = 0
+cellAt (suc m) (pos d) f = if (ltb (d / suc m) 16) (f (d / suc m)) 0
+cellAt (suc m) (negsuc d) f = 0
 
 -- the pixel of sprite n at line y and position x, of which the low 4 bits count; 0 where it covers nothing, and 0 is no pixel
 unfoldable pub pixelAt : List ℕ → ℕ → Sprite → ℕ → ℕ → ℕ
 pixelAt store n s y x =
-    across (yScale s) (pos y -ℤ s .y)
-    (λ row. across (xScale s) (pos x -ℤ s .x) (λ column. getD store (n * 256 + row * 16 + column) 0 % 16))
+    cellAt (yScale s) (pos y -ℤ s .y)
+    (λ row. cellAt (xScale s) (pos x -ℤ s .x) (λ column. getD store (n * 256 + row * 16 + column) 0 % 16))

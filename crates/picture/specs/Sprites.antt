@@ -5,6 +5,10 @@ use lib.IntN.{ℤ, pos, negsuc}
 use Rattle.words.specs.Choice.{if}
 use Rattle.picture.specs.declared.sprite.Sprite.{Sprite}
 
+-- a sprite that is off, at 0, 0
+abbrev pub offSprite : Sprite
+offSprite = record { x = pos 0; y = pos 0; magnification = 0 }
+
 -- the bits of a signed number, in two's complement with this modulus; negsuc n is -(n + 1)
 abbrev pub rawOf : ℕ → ℤ → ℕ
 rawOf m (pos n) = n % m
@@ -38,7 +42,7 @@ written s place b =
 abbrev pub lowShown : ℕ → ℤ → ℕ
 lowShown m z = rawOf m z % 256
 
--- a high byte reads as FFh when the coordinate is negative
+-- a high byte shows the upper bits, or FFh of a negative coordinate
 abbrev pub highShown : ℕ → ℤ → ℕ
 highShown m (pos n) = rawOf m (pos n) / 256
 highShown m (negsuc n) = 255

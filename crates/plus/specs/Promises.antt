@@ -6,7 +6,7 @@ use lib.ListN.{length, take, drop}
 use Rattle.sound.specs.declared.Report.{Report}
 use Rattle.sound.specs.Line.{soundLine}
 use Rattle.chip.specs.declared.Chip.{Chip}
-use Rattle.chip.specs.Contracts.{served}
+use Rattle.words.specs.Answers.{served}
 use Rattle.chip.specs.Step.{stepAnswer, stepped, idleReport}
 use Rattle.forecast.specs.declared.Length.{Length}
 use Rattle.forecast.specs.Contract.{Forecasts}

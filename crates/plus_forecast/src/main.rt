@@ -21,7 +21,7 @@ fn main() {
     let mut image = [0u8; 65537];
     let n = io::read_full(STDIN_FILENO, &mut image);
     let told = forecast::forecast(&image[..n], 0x8000, 0);
-    if told.answer != chip::DONE {
+    if told.answer != words::answer::DONE {
         print_refused(told.answer);
         return;
     }

@@ -7,7 +7,8 @@ use native.Mathlib.Numerals.{add-one}
 use borrow.Author.Tests.{ne-eqb}
 use Rattle.chip.specs.declared.Chip.{Chip}
 use Rattle.chip.specs.declared.Answered.{Answered}
-use Rattle.chip.specs.Contracts.{served, Answers}
+use Rattle.words.specs.Answers.{served}
+use Rattle.chip.specs.Contracts.{Answers}
 use Rattle.plus_run.specs.declared.calls.Machine.{Machine}
 use Rattle.plus_run.specs.declared.calls.Record.{Record}
 use Rattle.plus_run.specs.Lines.{oneLine, badLine}

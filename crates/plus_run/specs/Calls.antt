@@ -7,7 +7,7 @@ use lib.ListN.{length, set}
 use Rattle.words.specs.Choice.{if}
 use Rattle.sound.specs.Line.{soundLine}
 use Rattle.chip.specs.declared.Chip.{Chip}
-use Rattle.chip.specs.Contracts.{done, served}
+use Rattle.words.specs.Answers.{done, served}
 use Rattle.chip.specs.Reset.{resetChip}
 use Rattle.chip.specs.Ports.{selected, dataAnswer, dataWritten, gateAnswer, gateWritten}
 use Rattle.chip.specs.Interrupts.{acknowledgeAnswer, acknowledged, vectorOn}

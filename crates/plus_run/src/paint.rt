@@ -1,7 +1,7 @@
 // The current line as text.
 use crate::text;
 use chip::Chip;
-use chip::DONE;
+use words::answer::DONE;
 ghost use mathlib.Core.Path.{_≡_};
 ghost use Prim.Native.Nat.{_+_, _≤_};
 ghost use lib.ListN.{length, getD};

@@ -9,8 +9,8 @@ use lib.ListN.{length, getD, set}
 use lib.Seq.{getD-set-same, getD-set-other}
 use Rattle.picture.specs.Pens.{widthOf, penAt}
 use Rattle.picture.specs.Screen.{characterAt, byteAddress}
-use Rattle.screen.specs.Tables.{listed, eight}
-use Rattle.screen.specs.MainLine.{linePen, characterPen, Placed}
+use Rattle.screen.specs.MainLine.{linePen}
+use Rattle.screen.specs.Placing.{listed, eight, characterPen, Placed}
 use Rattle.words.proofs.Order.{either-side}
 
 pub placed-none : {f : ℕ → ℕ} {at : ℕ} {l : List ℕ} → Placed f at 0 l l

@@ -9,8 +9,8 @@ use lib.Dec.{T, eqb, eqb→eq}
 use lib.ListN.{length, getD}
 use Rattle.words.specs.Choice.{both, ofBool}
 use Rattle.picture.specs.Pens.{widthOf, pen, penAt}
-use Rattle.screen.specs.Tables.{Table, PenWidth}
-use Rattle.screen.specs.MainLine.{halfAt, characterPen}
+use Rattle.screen.specs.Tables.{Table}
+use Rattle.screen.specs.Placing.{PenWidth, halfAt, characterPen}
 
 both-left : (a b : Bool) → T (both a b) → T a
 both-left true b t = tt

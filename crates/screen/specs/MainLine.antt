@@ -2,9 +2,7 @@
 use mathlib.Core.Path.{_≡_}
 use mathlib.Core.List.{List}
 use Prim.Native.Nat.{ℕ, _+_, _/_, _%_, _<_}
-use lib.Dec.{ltb}
 use lib.ListN.{length, getD}
-use Rattle.words.specs.Choice.{if}
 use Rattle.picture.specs.Pens.{widthOf, penAt}
 use Rattle.picture.specs.Screen.{characterAt, byteAddress}
 
@@ -18,15 +16,3 @@ pub record LinePens (ram : List ℕ) (mode address row : ℕ) (pens : List ℕ) 
   pub size : length pens ≡ 656
   pub lead : (p : ℕ) → p < 16 → getD pens p 0 ≡ 0
   pub pen : (p : ℕ) → p < 640 → getD pens (16 + p) 0 ≡ linePen ram mode address row p
-
--- of a character's two bytes the one at position j, and its pen there
-abbrev pub halfAt : ℕ → ℕ → ℕ → ℕ
-halfAt left right j = if (ltb j 8) left right
-
-unfoldable pub characterPen : ℕ → ℕ → ℕ → ℕ → ℕ
-characterPen width left right j = penAt width (halfAt left right j) (j % 8)
-
--- n values of a function in place, and what stood before them kept
-pub record Placed (f : ℕ → ℕ) (at n : ℕ) (before after : List ℕ) : Type 0 where
-  pub kept : (p : ℕ) → p < at → getD after p 0 ≡ getD before p 0
-  pub put : (j : ℕ) → j < n → getD after (at + j) 0 ≡ f j

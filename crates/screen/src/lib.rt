@@ -6,8 +6,9 @@ ghost use Prim.Native.Nat.{_*_, _/_, _<_, _≤_};
 ghost use lib.ListN.{length};
 ghost use Rattle.picture.specs.Pens.{widthOf, penAt};
 ghost use Rattle.picture.specs.Screen.{characterAt, byteAddress};
-ghost use Rattle.screen.specs.Tables.{eight, Table, PenWidth};
-ghost use Rattle.screen.specs.MainLine.{halfAt, characterPen, Placed, LinePens};
+ghost use Rattle.screen.specs.Tables.{Table};
+ghost use Rattle.screen.specs.MainLine.{LinePens};
+ghost use Rattle.screen.specs.Placing.{eight, PenWidth, halfAt, characterPen, Placed};
 
 // Of a character's two bytes the one at one of its 16 positions.
 fn half(left: u8, right: u8, j: usize) -> u8

@@ -73,8 +73,8 @@ withFlags c enabled interrupt =
       mark = c .mark;
     }
 
--- enabled, with pause above 0: one more line is counted, and where the count exceeds the prescale
--- it returns to 0 and the pause falls by 1
+-- a pause that is running, while the channel is enabled, counts a line; a count past the prescale starts again at 0 and takes 1 off
+-- the pause
 unfoldable pub counted : Channel → Channel
 counted c =
     if (both (c .enabled) (ltb 0 (c .pause)))
@@ -97,7 +97,7 @@ paused n c = if (eqb n 0) c (withPause c n 0)
 abbrev pub repeated : ℕ → Channel → Channel
 repeated n c = withLoop c n (c .address)
 
--- LOOP: if the counter isn't 0, it falls by 1 and the address becomes the mark
+-- LOOP with a counter above 0 takes 1 off it and goes back to the mark
 abbrev pub looped : Bool → Channel → Channel
 looped b c =
     if (both b (ltb 0 (c .counter))) (withAddress (withLoop c (c .counter - 1) (c .mark)) (c .mark)) c

@@ -33,8 +33,8 @@ enum-told-3 c = search needs
 enum-known-register-4 : tie.Need-enum-known-register-4
 enum-known-register-4 c = search needs
 
-start-written-requires : tie.Need-start-written-requires
-start-written-requires c κs = rw (c .before .register4 .given .1) at (c .before .before .before .pre)
+channels-written-requires : tie.Need-channels-written-requires
+channels-written-requires c κs = rw (c .before .register4 .given .1) at (c .before .before .before .pre)
 
 enum-told-4 : tie.Need-enum-told-4
 enum-told-4 c = search needs
@@ -67,7 +67,7 @@ returns-6 : tie.Need-returns-6
 returns-6 c = simp (c .enum-told3 .given .1)
 
 returns-7 : tie.Need-returns-7
-returns-7 c = simp (c .before .before .register4 .given .1, c .start-written .ensures)
+returns-7 c = simp (c .before .before .register4 .given .1, c .channels-written .ensures)
 
 returns-8 : tie.Need-returns-8
 returns-8 c = simp (c .before .enum-told4 .given .1, c .dcsr-written .ensures)
@@ -92,7 +92,7 @@ register-written-spec =
     enum-told-2
     enum-told-3
     enum-known-register-4
-    start-written-requires
+    channels-written-requires
     enum-told-4
     dcsr-written-requires
     enum-told-5

@@ -6,8 +6,7 @@ use Prim.Native.Nat.{ℕ, _≤_, _-_}
 use mathlib.Core.List.{List}
 use lib.ListN.{length, getD}
 use Rattle.picture.specs.Pens.{penAt}
-use Rattle.screen.specs.Tables.{eight as eightOf}
-use Rattle.screen.specs.MainLine.{Placed}
+use Rattle.screen.specs.Placing.{eight as eightOf, Placed}
 use Rattle.screen.proofs.Storing.{one-of-eight, placed-none, placed-more}
 use Rattle.screen.proofs.put_bits.Statement.{statement}
 use Rattle.screen.proofs.put_bits.Tie as tie

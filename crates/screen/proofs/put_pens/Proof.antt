@@ -4,7 +4,7 @@ use native.Mathlib.Omega.{arith}
 use mathlib.Core.Path.{_≡_}
 use Prim.Native.Nat.{_≤_, _-_}
 use lib.ListN.{length}
-use Rattle.screen.specs.MainLine.{characterPen, Placed}
+use Rattle.screen.specs.Placing.{characterPen, Placed}
 use Rattle.screen.proofs.Table.{place, its-pen}
 use Rattle.screen.proofs.Storing.{placed-none, placed-more}
 use Rattle.screen.proofs.put_pens.Statement.{statement}

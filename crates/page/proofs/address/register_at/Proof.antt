@@ -6,8 +6,8 @@ use Rattle.page.proofs.AddressLaws.{past-6000, past-6400, past-6800, pa
 use Rattle.page.proofs.address.register_at.Statement.{statement}
 use Rattle.page.proofs.address.register_at.Tie as tie
 
-pixel-at-requires : tie.Need-pixel-at-requires
-pixel-at-requires c κs = search needs
+pixel-or-empty-requires : tie.Need-pixel-or-empty-requires
+pixel-or-empty-requires c κs = search needs
 
 returns : tie.Need-returns
 returns c = search needs
@@ -84,7 +84,7 @@ pub register-at-spec : {M : Type 1} → statement M
 register-at-spec =
     tie.close
     (tie.spec
-    pixel-at-requires
+    pixel-or-empty-requires
     returns
     sprite-at-requires
     returns-2

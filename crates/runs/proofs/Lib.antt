@@ -1,0 +1,3 @@
+-- Laws over runs.
+pub mod Asks
+pub mod History

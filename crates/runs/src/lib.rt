@@ -1,0 +1,1 @@
+// Runs of calls: only definitions and laws over the calls' contracts, and no code.

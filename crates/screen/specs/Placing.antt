@@ -1,0 +1,36 @@
+-- Serves only the code's laying of pens, a character at a time, in the contracts of private functions. No public promise cites it: a
+-- line's pens are said by MainLine, and the tables by Tables.
+use mathlib.Core.Path.{_≡_}
+use mathlib.Core.List.{List, [], _∷_}
+use Prim.Native.Nat.{ℕ, zero, suc, _+_, _/_, _%_, _<_, _≤_}
+use lib.Dec.{ltb}
+use lib.ListN.{getD}
+use Rattle.words.specs.Choice.{if}
+use Rattle.picture.specs.Pens.{penAt}
+
+-- a width that a byte's 8 positions are a whole number of
+pub record PenWidth (width : ℕ) : Type 0 where
+  pub some : 0 < width
+  pub few : 8 / width ≤ 8
+  pub each : (j : ℕ) → j < 8 → j / width < 8 / width
+
+-- what a function gives at n positions from i on
+abbrev pub listed : (ℕ → ℕ) → ℕ → ℕ → List ℕ
+listed f i zero = []
+listed f i (suc n) = f i ∷ listed f (suc i) n
+
+-- and at a byte's 8 positions
+abbrev pub eight : (ℕ → ℕ) → List ℕ
+eight f = listed f 0 8
+
+-- of a character's two bytes the one at position j, and its pen there
+abbrev pub halfAt : ℕ → ℕ → ℕ → ℕ
+halfAt left right j = if (ltb j 8) left right
+
+unfoldable pub characterPen : ℕ → ℕ → ℕ → ℕ → ℕ
+characterPen width left right j = penAt width (halfAt left right j) (j % 8)
+
+-- n values of a function in place, and what stood before them kept
+pub record Placed (f : ℕ → ℕ) (at n : ℕ) (before after : List ℕ) : Type 0 where
+  pub kept : (p : ℕ) → p < at → getD after p 0 ≡ getD before p 0
+  pub put : (j : ℕ) → j < n → getD after (at + j) 0 ≡ f j

@@ -1,0 +1,36 @@
+-- 01, "Numbers a call can answer": the numbers, and what stands in place of a result where a call is refused.
+use Prim.Native.Nat.{ℕ}
+use lib.Dec.{eqb}
+use Rattle.words.specs.Choice.{if}
+
+-- the call is served
+abbrev pub done : ℕ
+done = 0
+
+-- a lent buffer has another length
+abbrev pub wrongLength : ℕ
+wrongLength = 1
+
+-- an address outside the page, or a page that is not mapped
+abbrev pub notMapped : ℕ
+notMapped = 2
+
+-- nothing there to write
+abbrev pub nothingThere : ℕ
+nothingThere = 3
+
+-- the screen mode is 3
+abbrev pub modeThree : ℕ
+modeThree = 4
+
+-- no interrupt waits
+abbrev pub noInterrupt : ℕ
+noInterrupt = 5
+
+-- no STOP from the start address to FFFEh
+abbrev pub noStop : ℕ
+noStop = 6
+
+-- what a served call gives, or what stands in its place where the number is a refusal
+abbrev pub served : {A : Type 0} → ℕ → A → A → A
+served number x other = if (eqb number done) x other

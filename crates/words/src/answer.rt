@@ -1,0 +1,20 @@
+// The numbers a call can answer: done;
+pub const DONE: u8 = 0;
+
+// a lent buffer has another length;
+pub const WRONG_LENGTH: u8 = 1;
+
+// an address outside the page, or the page is not mapped;
+pub const NOT_MAPPED: u8 = 2;
+
+// nothing there to write;
+pub const NOTHING_THERE: u8 = 3;
+
+// the screen mode is 3;
+pub const MODE_THREE: u8 = 4;
+
+// no interrupt is waiting;
+pub const NO_INTERRUPT: u8 = 5;
+
+// no STOP from the start address to FFFEh.
+pub const NO_STOP: u8 = 6;
