@@ -1,11 +1,15 @@
 -- The records of a block of input, one after the other.
 use mathlib.Core.Path.{_≡_}
 use mathlib.Core.List.{List}
-use Prim.Native.Nat.{ℕ, zero, suc, _+_, _*_, _≤_}
+use Prim.Native.Nat.{ℕ, zero, suc, _+_, _-_, _*_, _%_, _≤_}
+use lib.Dec.{leb}
 use lib.ListN.{length, getD}
+use Rattle.words.specs.Choice.{if}
 use Rattle.chip.specs.declared.Chip.{Chip}
 use Rattle.plus_run.specs.declared.calls.Machine.{Machine}
 use Rattle.plus_run.specs.declared.calls.Record.{Record}
+use Rattle.plus_run.specs.Text.{Puts}
+use Rattle.plus_run.specs.Lines.{shortLine}
 use Rattle.plus_run.specs.Calls.{Outcome, outcome}
 
 -- the address of the record at a place of a block, low byte first
@@ -24,10 +28,25 @@ pub record Ready (m : Machine) (ram out : List ℕ) : Type 0 where
   pub buffer : length out ≡ 65536
   pub memory : length ram ≡ 65536
 
--- the same chip, with room for a line
+-- a machine with room for a line in so long a buffer: where there is none, all that waits is written out first
+abbrev pub emptied : Machine → Machine
+emptied m = record { chip = m .chip; at = 0 }
+
+unfoldable pub roomy : Machine → ℕ → Machine
+roomy m size = if (leb (m .at) (size - 1024)) m (emptied m)
+
+-- what making room promises
 pub record Roomy (m : Machine) (out : List ℕ) (r : Machine) : Type 0 where
+  pub is : r ≡ roomy m (length out)
   pub chip : r .chip ≡ m .chip
   pub room : r .at + 1024 ≤ length out
+
+-- the end of the input, after so many bytes of a block: a part of a record makes the last line
+pub record Ends (m : Machine) (before : List ℕ) (bytes : ℕ) (after : List ℕ) (r : Machine) : Type 0 where
+  pub chip : r .chip ≡ m .chip
+  pub whole : bytes % 4 ≡ 0 → (r ≡ m) × (after ≡ before)
+  pub part : (bytes % 4 ≡ 0 → ⊥) → Puts before (roomy m (length before) .at) shortLine after (r .at)
+  pub within : r .at ≤ length after
 
 -- what the records work on
 pub record State : Type 0 where

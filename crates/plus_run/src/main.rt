@@ -12,7 +12,7 @@ use libc::STDOUT_FILENO;
 ghost use mathlib.Core.Path.{_≡_};
 ghost use Prim.Native.Nat.{_+_, _/_, _≤_};
 ghost use lib.ListN.{length};
-ghost use Rattle.plus_run.specs.Blocks.{Takes, Ready, Roomy, stateOf, after, played};
+ghost use Rattle.plus_run.specs.Blocks.{Takes, Ready, Roomy, Ends, stateOf, after, played};
 
 // More than the longest line of output.
 const LONGEST: usize = 1024;
@@ -92,7 +92,7 @@ fn records(m: Machine, ram: &mut [u8], store: &mut [u8], out: &mut [u8], block: 
 // The end of the input: a part of a record makes the line `short`.
 fn last(m: Machine, out: &mut [u8], bytes: usize) -> Machine
     requires { ⌜ (m .at ≤ length (now out)) × (1024 ≤ length (now out)) ⌝ }
-    ensures { λ r. ⌜ r .at ≤ length (now (out .exit)) ⌝ }
+    ensures { λ r. ⌜ Ends m (now (out .entry)) bytes (now (out .exit)) r ⌝ }
 {
     if bytes % 4 == 0 {
         return m;
