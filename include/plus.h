@@ -1,10 +1,12 @@
 /* The Plus chip core. Link libplus.a, which `rt staticlib plus` builds.
  *
- * The chip's state goes in by value and comes back in the answer; the library keeps nothing between calls. Every call has an
- * answer number. With a refusal, that is any other than 0, the state and the buffers are as they were and every other number
- * in the answer is 0. Any contents of the structs are served, but a bool must be 0 or 1.
+ * The chip's state goes in by value and comes back in the answer; the library keeps nothing between calls. Every call but
+ * plus_reset and plus_grey, which can't be refused, has an answer number. With a refusal, that is any other than 0, the state
+ * and the buffers are as they were and every other number in the answer is 0. Any contents of the structs are served, but a
+ * bool must be 0 or 1.
  *
- * A buffer is a pointer, never NULL, and its length in bytes: PLUS_RAM for RAM, PLUS_STORE for the sprite pixel store. */
+ * A buffer is a pointer, never NULL, and its length in bytes: PLUS_RAM for RAM, PLUS_STORE for the sprite pixel store, PLUS_LINE
+ * for a drawn line. The buffers of one call must not overlap. */
 #ifndef PLUS_H
 #define PLUS_H
 
@@ -16,17 +18,17 @@
 extern "C" {
 #endif
 
-enum { PLUS_RAM = 65536, PLUS_STORE = 4096 };
+enum { PLUS_RAM = 65536, PLUS_STORE = 4096, PLUS_LINE = 640 };
 
 /* The numbers a call can answer. The lowest that applies is given. */
 enum {
     PLUS_DONE = 0,          /* done */
-    PLUS_WRONG_LENGTH = 1,  /* a buffer has another length: page read and write, line step, drawing, forecast */
-    PLUS_NOT_MAPPED = 2,    /* address outside 4000h-7FFFh, or page not mapped: page read and write */
-    PLUS_NOTHING_THERE = 3, /* nothing there to write: page write, 6845 data write, gate array write */
-    PLUS_MODE_THREE = 4,    /* the screen mode is 3: drawing */
-    PLUS_NO_INTERRUPT = 5,  /* no interrupt is waiting: acknowledge */
-    PLUS_NO_STOP = 6        /* no STOP from the start address to FFFEh: forecast */
+    PLUS_WRONG_LENGTH = 1,  /* a buffer has another length than its call wants */
+    PLUS_NOT_MAPPED = 2,    /* the page is not mapped, or the address is not in it (4000h to 7FFFh) */
+    PLUS_NOTHING_THERE = 3, /* no register there that could be written */
+    PLUS_MODE_THREE = 4,    /* a line in screen mode 3 can't be drawn */
+    PLUS_NO_INTERRUPT = 5,  /* nothing to acknowledge */
+    PLUS_NO_STOP = 6        /* the list has no STOP up to the end of RAM */
 };
 
 /* What a channel did on a line. */
@@ -145,7 +147,7 @@ typedef struct {
 
 /* The calls. */
 
-/* The chip after reset. */
+/* The chip after reset. No answer number: nothing can refuse it. */
 PlusChip plus_reset(void);
 
 /* A byte to port BCxx: selects a 6845 register and feeds the lock. Answers 0. */
@@ -169,9 +171,12 @@ PlusAcknowledged plus_acknowledge(PlusChip chip);
 /* One line: sound, raster compare, split compare, counters. Answers 0 or 1. */
 PlusStepped plus_step(PlusChip chip, const uint8_t *ram, size_t ram_length);
 
-/* Draws the current line: each of the line's 640 bytes becomes a palette entry. Answers 0, 1 or 4. */
+/* Draws the current line: each of the PLUS_LINE bytes becomes a palette entry. Answers 0, 1 or 4. */
 uint8_t plus_draw(PlusChip chip, const uint8_t *ram, size_t ram_length, const uint8_t *store, size_t store_length, uint8_t *line,
                   size_t line_length);
+
+/* The grey of a palette entry, 0 to 195, from its two bytes. No answer number. */
+uint8_t plus_grey(uint8_t low, uint8_t high);
 
 /* The length of the sound list at a start address, before it plays. Answers 0, 1 or 6. */
 PlusLength plus_forecast(const uint8_t *ram, size_t ram_length, uint16_t start, uint8_t prescale);

@@ -2,16 +2,17 @@
 use chip::Acknowledged;
 use chip::Answered;
 use chip::Chip;
-use chip::DONE;
 use page::ByteRead;
 use sound::Did;
 use sound::Entry;
 use words::WordKind;
+use words::answer::DONE;
 ghost use mathlib.Core.Path.{_≡_};
 ghost use Rattle.chip.specs.Contracts.{Answers};
 ghost use Rattle.chip.specs.Interrupts.{Acknowledges};
 ghost use Rattle.chip.specs.Ports.{Selects, dataAnswer, dataWritten, gateAnswer, gateWritten};
 ghost use Rattle.chip.specs.Reset.{Reset};
+ghost use Rattle.picture.specs.Palette.{greyOf};
 ghost use Rattle.page.specs.Page.{Reads, Writes};
 ghost use Rattle.draw.specs.Drawing.{Draws};
 ghost use Rattle.plus.specs.Report.{kindNumber, lowOf, kindsOf, lowsOf};
@@ -182,6 +183,14 @@ pub extern "C" fn plus_forecast(ram: &[u8], start: u16, prescale: u8) -> PlusLen
         offset: start as u32 / 2 * 2,
         length: list.len() as u32,
     }
+}
+
+// The grey of a palette entry, from its two bytes.
+#[no_mangle]
+pub extern "C" fn plus_grey(low: u8, high: u8) -> u8
+    ensures { λ r. ⌜ r ≡ greyOf low high ⌝ }
+{
+    picture::palette::grey(low, high)
 }
 
 // Draws the current line into 640 bytes.
