@@ -27,6 +27,9 @@ macro_rules! calls {
             /// The forecast of a sound list, which takes no chip.
             fn forecast(ram: &[u8], start: u16, prescale: u8) -> Length;
 
+            /// The grey of a palette entry's two bytes, which takes none either.
+            fn grey(low: u8, high: u8) -> u8;
+
             $($(#[$about])* fn $call(&mut self, $($name: $type),*) -> $answer;)*
         }
 
@@ -45,6 +48,10 @@ macro_rules! calls {
 
             fn forecast(ram: &[u8], start: u16, prescale: u8) -> Length {
                 plus::forecast(ram, start, prescale)
+            }
+
+            fn grey(low: u8, high: u8) -> u8 {
+                plus::grey(low, high)
             }
 
             $(fn $call(&mut self, $($name: $type),*) -> $answer {
@@ -79,6 +86,10 @@ macro_rules! calls {
 
             fn forecast(ram: &[u8], start: u16, prescale: u8) -> Length {
                 F::forecast(ram, start, prescale)
+            }
+
+            fn grey(low: u8, high: u8) -> u8 {
+                plus::grey(low, high)
             }
 
             $(fn $call(&mut self, $($name: $type),*) -> $answer {
@@ -145,6 +156,10 @@ impl Machine for Model {
             offset: offset as u32,
             length: list.len() as u32,
         }
+    }
+
+    fn grey(low: u8, high: u8) -> u8 {
+        chip::grey(low, high)
     }
 
     fn write_bc(&mut self, byte: u8) -> u8 {

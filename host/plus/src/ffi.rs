@@ -60,6 +60,7 @@ extern "C" {
         start: u16,
         prescale: u8,
     ) -> Length;
+    pub(crate) fn plus_grey(low: u8, high: u8) -> u8;
     pub(crate) fn plus_draw(
         chip: Chip,
         ram: *const u8,

@@ -39,10 +39,12 @@ mod chip;
 mod ffi;
 mod forecast;
 pub mod kind;
+mod palette;
 mod state;
 
 pub use chip::{Chip, Report};
 pub use forecast::{forecast, Length};
+pub use palette::grey;
 pub use state::{
     Channel, Counters, Crtc, Gate, Interrupts, Lock, Registers, Sound, Sprite, State, Video,
 };

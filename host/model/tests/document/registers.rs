@@ -1,6 +1,5 @@
 //! Document 01, "The register page": what each register keeps and reads.
 
-use model::chip::grey;
 use model::under_test::UnderTest;
 use model::{held, Machine};
 use plus::STORE;
@@ -101,19 +100,22 @@ fn palette_bytes<M: Machine>() {
     }
 }
 
-/// 9 green + 3 red + blue. The C interface has no call for it, so this is the
-/// model's; the core's is held by its proof and must-fail edits.
-#[test]
-fn grey_of_an_entry() {
-    assert_eq!(grey(0x00, 0x00), 0);
-    assert_eq!(grey(0x01, 0x00), 1);
-    assert_eq!(grey(0x10, 0x00), 3);
-    assert_eq!(grey(0x00, 0x01), 9);
-    assert_eq!(grey(0x0F, 0x00), 15);
-    assert_eq!(grey(0xF0, 0x00), 45);
-    assert_eq!(grey(0x00, 0x0F), 135);
-    assert_eq!(grey(0x53, 0xF7), 9 * 7 + 3 * 5 + 3);
-    assert_eq!(grey(0xFF, 0xFF), 195);
+// 9 green + 3 red + blue.
+held!(grey_of_an_entry);
+fn grey_of_an_entry<M: Machine>() {
+    for (low, high, grey) in [
+        (0x00, 0x00, 0),
+        (0x01, 0x00, 1),
+        (0x10, 0x00, 3),
+        (0x00, 0x01, 9),
+        (0x0F, 0x00, 15),
+        (0xF0, 0x00, 45),
+        (0x00, 0x0F, 135),
+        (0x53, 0xF7, 9 * 7 + 3 * 5 + 3),
+        (0xFF, 0xFF, 195),
+    ] {
+        assert_eq!(M::grey(low, high), grey, "{low:02X} {high:02X}");
+    }
 }
 
 held!(video_registers_and_ivr_are_written_only);
