@@ -31,6 +31,14 @@ noInterrupt = 5
 abbrev pub noStop : ℕ
 noStop = 6
 
+-- a text is not of the listing's form
+abbrev pub notListing : ℕ
+notListing = 7
+
+-- the output buffer is too small
+abbrev pub tooSmall : ℕ
+tooSmall = 8
+
 -- what a served call gives, or what stands in its place where the number is a refusal
 abbrev pub served : {A : Type 0} → ℕ → A → A → A
 served number x other = if (eqb number done) x other

@@ -16,5 +16,11 @@ pub const MODE_THREE: u8 = 4;
 // no interrupt is waiting;
 pub const NO_INTERRUPT: u8 = 5;
 
-// no STOP from the start address to FFFEh.
+// no STOP from the start address to FFFEh;
 pub const NO_STOP: u8 = 6;
+
+// a text is not of the listing's form;
+pub const NOT_LISTING: u8 = 7;
+
+// the output buffer is too small.
+pub const TOO_SMALL: u8 = 8;

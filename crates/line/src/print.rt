@@ -1,0 +1,155 @@
+// A word's line put into a text that has room for it. Each function answers the place after what it puts.
+use crate::digit;
+ghost use mathlib.Core.Path.{_≡_};
+ghost use mathlib.Core.List.{[], _∷_, _++_};
+ghost use Prim.Native.Nat.{_+_, _/_, _%_, _≤_, _<_};
+ghost use lib.ListN.{length};
+ghost use Rattle.line.specs.Line.{decimal, digits, lineOf};
+ghost use Rattle.line.specs.Parts.{Puts, counted, loadLine, wordLine};
+
+// The bytes of a part.
+pub fn put(text: &mut [u8], at: usize, part: &[u8]) -> usize
+    requires { ⌜ at + length (now part) ≤ length (now text) ⌝ }
+    ensures { λ r. ⌜ Puts (now (text .entry)) at (now (part .entry)) (now (text .exit)) r ⌝ }
+{
+    let mut i = 0;
+    while i < part.len() {
+        text[at + i] = part[i];
+        i += 1;
+    }
+    at + i
+}
+
+// One byte.
+fn put_byte(text: &mut [u8], at: usize, byte: u8) -> usize
+    requires { ⌜ at < length (now text) ⌝ }
+    ensures { λ r. ⌜ Puts (now (text .entry)) at (byte ∷ []) (now (text .exit)) r ⌝ }
+{
+    text[at] = byte;
+    at + 1
+}
+
+// The last digit of a number in a base.
+fn put_one(text: &mut [u8], at: usize, base: u16, n: u16) -> usize
+    requires { ⌜ ((0 < base) × (base ≤ 16)) × (at + 1 ≤ length (now text)) ⌝ }
+    ensures { λ r. ⌜ Puts (now (text .entry)) at (digits base 1 n) (now (text .exit)) r ⌝ }
+{
+    put_byte(text, at, digit::character(n % base))
+}
+
+// The last two digits of a number in a base.
+fn put_two(text: &mut [u8], at: usize, base: u16, n: u16) -> usize
+    requires { ⌜ ((0 < base) × (base ≤ 16)) × (at + 2 ≤ length (now text)) ⌝ }
+    ensures { λ r. ⌜ Puts (now (text .entry)) at (digits base 2 n) (now (text .exit)) r ⌝ }
+{
+    let next = put_one(text, at, base, n / base);
+    put_one(text, next, base, n)
+}
+
+// A number below 100 in decimal.
+fn put_short(text: &mut [u8], at: usize, n: u16) -> usize
+    requires { ⌜ (n < 100) × (at + length (decimal n) ≤ length (now text)) ⌝ }
+    ensures { λ r. ⌜ Puts (now (text .entry)) at (decimal n) (now (text .exit)) r ⌝ }
+{
+    if n < 10 {
+        return put_one(text, at, 10, n);
+    }
+    put_two(text, at, 10, n)
+}
+
+// A number below 10,000 in decimal.
+fn put_decimal(text: &mut [u8], at: usize, n: u16) -> usize
+    requires { ⌜ (n < 10000) × (at + length (decimal n) ≤ length (now text)) ⌝ }
+    ensures { λ r. ⌜ Puts (now (text .entry)) at (decimal n) (now (text .exit)) r ⌝ }
+{
+    if n < 100 {
+        return put_short(text, at, n);
+    }
+    let next = put_short(text, at, n / 100);
+    put_two(text, next, 10, n)
+}
+
+// A name, a number and the character after it.
+fn put_counted(text: &mut [u8], at: usize, name: &[u8], n: u16, after: u8) -> usize
+    requires { ⌜ (n < 10000) × (at + length (now name) + length (decimal n) + 1 ≤ length (now text)) ⌝ }
+    ensures { λ r. ⌜ Puts (now (text .entry)) at (now (name .entry) ++ counted n after) (now (text .exit)) r ⌝ }
+{
+    let number = put(text, at, name);
+    let next = put_decimal(text, number, n);
+    put_byte(text, next, after)
+}
+
+// LOAD, its register and its data.
+fn put_load(text: &mut [u8], at: usize, word: u16) -> usize
+    requires { ⌜ at + 9 + length (decimal (word / 256)) ≤ length (now text) ⌝ }
+    ensures { λ r. ⌜ Puts (now (text .entry)) at (loadLine word) (now (text .exit)) r ⌝ }
+{
+    let data = put_counted(text, at, b"LOAD ", word / 256, b' ');
+    let end = put_two(text, data, 16, word % 256);
+    put_byte(text, end, b'\n')
+}
+
+// A word with no name of its own.
+fn put_word(text: &mut [u8], at: usize, word: u16) -> usize
+    requires { ⌜ at + 10 ≤ length (now text) ⌝ }
+    ensures { λ r. ⌜ Puts (now (text .entry)) at (wordLine word) (now (text .exit)) r ⌝ }
+{
+    let high = put(text, at, b"WORD ");
+    let low = put_two(text, high, 16, word / 256);
+    let end = put_two(text, low, 16, word);
+    put_byte(text, end, b'\n')
+}
+
+// A control word with LOOP.
+fn put_loop(text: &mut [u8], at: usize, word: u16) -> usize
+    requires { ⌜ ((word / 4096 ≡ 4) × (word % 2 ≡ 1)) × (at + length (lineOf word) ≤ length (now text)) ⌝ }
+    ensures { λ r. ⌜ Puts (now (text .entry)) at (lineOf word) (now (text .exit)) r ⌝ }
+{
+    match word {
+        0x4001 => put(text, at, b"LOOP\n"),
+        0x4011 => put(text, at, b"LOOP+INT\n"),
+        0x4021 => put(text, at, b"LOOP+STOP\n"),
+        0x4031 => put(text, at, b"LOOP+INT+STOP\n"),
+        _ => put_word(text, at, word),
+    }
+}
+
+// A control word with no LOOP.
+fn put_no_loop(text: &mut [u8], at: usize, word: u16) -> usize
+    requires { ⌜ ((word / 4096 ≡ 4) × (word % 2 ≡ 0)) × (at + length (lineOf word) ≤ length (now text)) ⌝ }
+    ensures { λ r. ⌜ Puts (now (text .entry)) at (lineOf word) (now (text .exit)) r ⌝ }
+{
+    match word {
+        0x4000 => put(text, at, b"NOP\n"),
+        0x4010 => put(text, at, b"INT\n"),
+        0x4020 => put(text, at, b"STOP\n"),
+        0x4030 => put(text, at, b"INT+STOP\n"),
+        _ => put_word(text, at, word),
+    }
+}
+
+// A control word.
+fn put_control(text: &mut [u8], at: usize, word: u16) -> usize
+    requires { ⌜ (word / 4096 ≡ 4) × (at + length (lineOf word) ≤ length (now text)) ⌝ }
+    ensures { λ r. ⌜ Puts (now (text .entry)) at (lineOf word) (now (text .exit)) r ⌝ }
+{
+    if word % 2 == 1 {
+        return put_loop(text, at, word);
+    }
+    put_no_loop(text, at, word)
+}
+
+// The line of a word.
+pub fn line(text: &mut [u8], at: usize, word: u16) -> usize
+    requires { ⌜ at + length (lineOf word) ≤ length (now text) ⌝ }
+    ensures { λ r. ⌜ Puts (now (text .entry)) at (lineOf word) (now (text .exit)) r ⌝ }
+{
+    let code = word / 4096;
+    match code {
+        0 => put_load(text, at, word),
+        1 => put_counted(text, at, b"PAUSE ", word % 4096, b'\n'),
+        2 => put_counted(text, at, b"REPEAT ", word % 4096, b'\n'),
+        4 => put_control(text, at, word),
+        _ => put_word(text, at, word),
+    }
+}
