@@ -1,7 +1,8 @@
 //! bench: core against model, side by side in one run: nanoseconds a call, and
 //! their ratio.
 //! bench CASE core|model COUNT: that many calls of one case and nothing else, to
-//! be counted by callgrind.
+//! be counted by callgrind. bench names: the cases, each with the calls of a timed
+//! run.
 
 use model::chip::{self, Model};
 use model::under_test::UnderTest;
@@ -11,22 +12,56 @@ use std::hint::black_box;
 use std::process::ExitCode;
 use std::time::Instant;
 
-const CASES: [&str; 10] = [
-    "line step",
-    "page write",
-    "page read",
-    "draw, no sprite",
-    "draw, 4 sprites",
-    "draw, 16 sprites",
-    "frame of 312 lines, no sprite",
-    "frame of 312 lines, 16 sprites",
-    "forecast, 32,767 words",
-    "draw, 16 transparent sprites",
-];
+/// What a case calls.
+#[derive(Clone, Copy)]
+enum Work {
+    Step,
+    PageWrite,
+    PageRead,
+    Draw,
+    Frame,
+    Forecast,
+}
 
-/// Calls of each case in one timed run.
-const COUNTS: [usize; CASES.len()] = [
-    100_000, 100_000, 100_000, 2_000, 2_000, 2_000, 10, 10, 20, 2_000,
+/// A row of the table: how many calls one timed run makes, how many sprites are
+/// on every line, and the screen mode.
+struct Case {
+    name: &'static str,
+    work: Work,
+    count: usize,
+    sprites: u16,
+    mode: u8,
+    /// Every pixel of the sprites lets what is behind it show.
+    transparent: bool,
+}
+
+const fn case(name: &'static str, work: Work, count: usize, sprites: u16, mode: u8) -> Case {
+    Case {
+        name,
+        work,
+        count,
+        sprites,
+        mode,
+        transparent: false,
+    }
+}
+
+const CASES: [Case; 12] = [
+    case("line step", Work::Step, 100_000, 0, 1),
+    case("page write", Work::PageWrite, 100_000, 0, 1),
+    case("page read", Work::PageRead, 100_000, 0, 1),
+    case("draw, no sprite", Work::Draw, 2_000, 0, 1),
+    case("draw, no sprite, mode 0", Work::Draw, 2_000, 0, 0),
+    case("draw, no sprite, mode 2", Work::Draw, 2_000, 0, 2),
+    case("draw, 4 sprites", Work::Draw, 2_000, 4, 1),
+    case("draw, 16 sprites", Work::Draw, 2_000, 16, 1),
+    Case {
+        transparent: true,
+        ..case("draw, 16 transparent sprites", Work::Draw, 2_000, 16, 1)
+    },
+    case("frame of 312 lines, no sprite", Work::Frame, 10, 0, 1),
+    case("frame of 312 lines, 16 sprites", Work::Frame, 10, 16, 1),
+    case("forecast, 32,767 words", Work::Forecast, 20, 0, 1),
 ];
 
 /// What both are given: RAM with a screen and a list that never ends before its
@@ -54,13 +89,12 @@ fn lent() -> Lent {
     }
 }
 
-/// Mode 1, 40 characters, 39 rows, so many sprites on every line, all channels
-/// on.
-fn set_up<M: UnderTest>(sprites: u16) -> M {
+/// 40 characters, 39 rows, the case's mode and sprites, all channels on.
+fn set_up<M: UnderTest>(case: &Case) -> M {
     let mut machine = M::open();
     machine.registers(&[(1, 40), (4, 38), (6, 39), (9, 7), (12, 0x30)]);
-    machine.write_7f(0x81);
-    for n in 0..sprites {
+    machine.write_7f(0x80 | case.mode);
+    for n in 0..case.sprites {
         let [low, high] = (n * 40).to_le_bytes();
         machine.poke(0x6000 + 8 * n, low);
         machine.poke(0x6001 + 8 * n, high);
@@ -74,34 +108,34 @@ fn set_up<M: UnderTest>(sprites: u16) -> M {
 /// names, and are called here with nothing between.
 macro_rules! calls_of {
     ($run:ident, $machine:ident, $forecast:path) => {
-        fn $run(case: usize, count: usize) {
-            let mut machine: $machine = set_up(sprites_of(case));
+        fn $run(case: &Case, count: usize) {
+            let mut machine: $machine = set_up(case);
             let Lent {
                 ram,
                 mut store,
                 mut line,
             } = lent();
-            if case == 9 {
+            if case.transparent {
                 store.fill(0);
             }
-            match case {
-                0 => repeat(count, |_| {
+            match case.work {
+                Work::Step => repeat(count, |_| {
                     black_box(machine.step(&ram));
                 }),
-                1 => repeat(count, |i| {
+                Work::PageWrite => repeat(count, |i| {
                     black_box(machine.page_write(&mut store, 0x6400 + i as u16 % 64, i as u8));
                 }),
-                2 => repeat(count, |i| {
+                Work::PageRead => repeat(count, |i| {
                     black_box(machine.page_read(&store, 0x6400 + i as u16 % 64, 0));
                 }),
-                3..=5 | 9 => repeat(count, |_| {
+                Work::Draw => repeat(count, |_| {
                     black_box(machine.draw(&ram, &store, &mut line));
                 }),
-                6 | 7 => repeat(312 * count, |_| {
+                Work::Frame => repeat(312 * count, |_| {
                     black_box(machine.draw(&ram, &store, &mut line));
                     black_box(machine.step(&ram));
                 }),
-                _ => repeat(count, |_| {
+                Work::Forecast => repeat(count, |_| {
                     black_box($forecast(&ram, 0, 0));
                 }),
             }
@@ -117,29 +151,21 @@ fn repeat(count: usize, call: impl FnMut(usize)) {
     (0..count).for_each(call);
 }
 
-fn sprites_of(case: usize) -> u16 {
-    match case {
-        4 => 4,
-        5 | 7 | 9 => 16,
-        _ => 0,
-    }
-}
-
 /// Nanoseconds a call: the least of nine runs.
-fn nanoseconds(run: fn(usize, usize), case: usize) -> f64 {
+fn nanoseconds(run: fn(&Case, usize), case: &Case) -> f64 {
     (0..9)
         .map(|_| {
             let start = Instant::now();
-            run(case, COUNTS[case]);
-            start.elapsed().as_nanos() as f64 / COUNTS[case] as f64
+            run(case, case.count);
+            start.elapsed().as_nanos() as f64 / case.count as f64
         })
         .fold(f64::MAX, f64::min)
 }
 
 fn table() {
     println!("| case | core, ns | model, ns | ratio |\n|---|---|---|---|");
-    for (case, name) in CASES.iter().enumerate() {
-        let core = nanoseconds(run_core, case);
+    for case in &CASES {
+        let (name, core) = (case.name, nanoseconds(run_core, case));
         let model = nanoseconds(run_model, case);
         println!("| {name} | {core:.0} | {model:.0} | {:.2} |", core / model);
     }
@@ -150,7 +176,7 @@ fn one_case(arguments: &[String]) -> Option<()> {
     let [case, which, count] = arguments else {
         return None;
     };
-    let case = case.parse().ok().filter(|&case| case < CASES.len())?;
+    let case = CASES.get(case.parse::<usize>().ok()?)?;
     let count = count.parse().ok()?;
     match which.as_str() {
         "core" => run_core(case, count),
@@ -164,8 +190,12 @@ fn main() -> ExitCode {
     let arguments: Vec<String> = env::args().skip(1).collect();
     if arguments.is_empty() {
         table();
+    } else if arguments == ["names"] {
+        for case in &CASES {
+            println!("{}\t{}", case.name, case.count);
+        }
     } else if one_case(&arguments).is_none() {
-        eprintln!("bench [CASE core|model COUNT]");
+        eprintln!("bench [names | CASE core|model COUNT]");
         return ExitCode::from(2);
     }
     ExitCode::SUCCESS
