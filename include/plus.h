@@ -2,11 +2,12 @@
  *
  * The chip's state goes in by value and comes back in the answer; the library keeps nothing between calls. Every call but
  * plus_reset and plus_grey, which can't be refused, has an answer number. With a refusal, that is any other than 0, the state
- * and the buffers are as they were and every other number in the answer is 0. Any contents of the structs are served, but a
- * bool must be 0 or 1.
+ * and the buffers are as they were and every other number in the answer is 0, but for the number of a bad line. Any contents of
+ * the structs are served, but a bool must be 0 or 1.
  *
- * A buffer is a pointer, never NULL, and its length in bytes: PLUS_RAM for RAM, PLUS_STORE for the sprite pixel store, PLUS_LINE
- * for a drawn line. The buffers of one call must not overlap. */
+ * A buffer is a pointer, never NULL, and its length: PLUS_RAM bytes for RAM, PLUS_STORE for the sprite pixel store, PLUS_LINE for
+ * a drawn line. A text has any number of bytes, and the length of sound words is counted in words. The buffers of one call must
+ * not overlap. */
 #ifndef PLUS_H
 #define PLUS_H
 
@@ -20,6 +21,9 @@ extern "C" {
 
 enum { PLUS_RAM = 65536, PLUS_STORE = 4096, PLUS_LINE = 640 };
 
+/* The most bytes that a word's line of text has, its LF with them: `LOOP+INT+STOP`. */
+enum { PLUS_LONGEST_LINE = 14 };
+
 /* The numbers a call can answer. The lowest that applies is given. */
 enum {
     PLUS_DONE = 0,          /* done */
@@ -28,7 +32,9 @@ enum {
     PLUS_NOTHING_THERE = 3, /* no register there that could be written */
     PLUS_MODE_THREE = 4,    /* a line in screen mode 3 can't be drawn */
     PLUS_NO_INTERRUPT = 5,  /* nothing to acknowledge */
-    PLUS_NO_STOP = 6        /* the list has no STOP up to the end of RAM */
+    PLUS_NO_STOP = 6,       /* the list has no STOP up to the end of RAM */
+    PLUS_NOT_LISTING = 7,   /* a line of the text is no word's */
+    PLUS_TOO_SMALL = 8      /* the buffer has no room for all of the text, or of the words */
 };
 
 /* What a channel did on a line. */
@@ -145,6 +151,17 @@ typedef struct {
     uint32_t offset, length; /* the list, its STOP with it: so many bytes of RAM from offset on */
 } PlusLength;
 
+typedef struct {
+    uint8_t answer;
+    size_t size; /* bytes of text written */
+} PlusPrinted;
+
+typedef struct {
+    uint8_t answer;
+    size_t count; /* words written */
+    size_t line;  /* with 7 the first bad line, from 1 */
+} PlusReadBack;
+
 /* The calls. */
 
 /* The chip after reset. No answer number: nothing can refuse it. */
@@ -180,6 +197,14 @@ uint8_t plus_grey(uint8_t low, uint8_t high);
 
 /* The length of the sound list at a start address, before it plays. Answers 0, 1 or 6. */
 PlusLength plus_forecast(const uint8_t *ram, size_t ram_length, uint16_t start, uint8_t prescale);
+
+/* Prints sound words as text, a line each. Room for PLUS_LONGEST_LINE bytes a word is always enough; what lies beyond the text
+ * stays. Answers 0 or 8. */
+PlusPrinted plus_print(const uint16_t *words, size_t words_length, uint8_t *text, size_t text_length);
+
+/* Reads such a text back; what lies beyond the words stays. No other text is read, so that printing the words gives it again. A
+ * text has as many words as it has LFs. Answers 0, 7 or 8. */
+PlusReadBack plus_read(const uint8_t *text, size_t text_length, uint16_t *words, size_t words_length);
 
 #ifdef __cplusplus
 }

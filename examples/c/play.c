@@ -1,4 +1,5 @@
-/* Forecasts a sound list, then plays it on channel 0 up to its STOP and counts the same two numbers. */
+/* Reads a sound list from text and prints it, forecasts it, then plays it on channel 0 up to its STOP and counts the same two
+ * numbers. */
 #include <stdio.h>
 #include <stdlib.h>
 #include <string.h>
@@ -7,8 +8,7 @@
 
 static const uint8_t unlock[] = {0x01, 0x00, 0xFF, 0x77, 0xB3, 0x51, 0xA8, 0xD4, 0x62,
                                  0x39, 0x9C, 0x46, 0x2B, 0x15, 0x8A, 0xCD, 0xEE};
-/* LOAD 7 38h, PAUSE 2, STOP */
-static const uint8_t list[] = {0x38, 0x07, 0x02, 0x10, 0x20, 0x40};
+static const char song[] = "LOAD 7 38\nPAUSE 2\nSTOP\n";
 
 static uint8_t ram[PLUS_RAM], store[PLUS_STORE];
 
@@ -26,8 +26,24 @@ static PlusChip poke(PlusChip chip, uint16_t address, uint8_t byte) {
     return written.chip;
 }
 
+/* The words of a listing into RAM, and their text to standard output. */
+static void put_list(const char *listing, uint16_t start) {
+    uint16_t words[16];
+    PlusReadBack read = plus_read((const uint8_t *)listing, strlen(listing), words, 16);
+    served("read", read.answer);
+    for (size_t i = 0; i < read.count; i++) {
+        ram[start + 2 * i] = words[i] & 0xFF;
+        ram[start + 2 * i + 1] = words[i] >> 8;
+    }
+
+    uint8_t text[16 * PLUS_LONGEST_LINE];
+    PlusPrinted printed = plus_print(words, read.count, text, sizeof text);
+    served("print", printed.answer);
+    fwrite(text, 1, printed.size, stdout);
+}
+
 int main(void) {
-    memcpy(ram + 0x8000, list, sizeof list);
+    put_list(song, 0x8000);
     PlusLength told = plus_forecast(ram, sizeof ram, 0x8000, 0);
     served("forecast", told.answer);
     printf("forecast: lines %llu cycles %llu, %u bytes at %04Xh\n", (unsigned long long)told.lines,

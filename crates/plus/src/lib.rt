@@ -1,7 +1,9 @@
-// The C interface: every call of the chip under a C name, with structs by value and slices as a pointer and a length.
+// The C interface: every call under a C name, with structs by value and slices as a pointer and a length.
 use chip::Acknowledged;
 use chip::Answered;
 use chip::Chip;
+use listing::Printed;
+use listing::ReadBack;
 use page::ByteRead;
 use sound::Did;
 use sound::Entry;
@@ -15,6 +17,8 @@ ghost use Rattle.chip.specs.Reset.{Reset};
 ghost use Rattle.picture.specs.Palette.{greyOf};
 ghost use Rattle.page.specs.Page.{Reads, Writes};
 ghost use Rattle.draw.specs.Drawing.{Draws};
+ghost use Rattle.listing.specs.Print.{Printing};
+ghost use Rattle.listing.specs.Read.{Reading};
 ghost use Rattle.plus.specs.Report.{kindNumber, lowOf, kindsOf, lowsOf};
 ghost use Rattle.plus.specs.Promises.{StepReported, LengthTold};
 
@@ -199,4 +203,20 @@ pub extern "C" fn plus_draw(chip: Chip, ram: &[u8], store: &[u8], line: &mut [u8
     ensures { λ r. ⌜ Draws chip (now (ram .entry)) (now (store .entry)) (now (line .entry)) (now (line .exit)) r ⌝ }
 {
     draw::draw(chip, ram, store, line)
+}
+
+// Prints words as text.
+#[no_mangle]
+pub extern "C" fn plus_print(words: &[u16], text: &mut [u8]) -> Printed
+    ensures { λ r. ⌜ Printing (now (words .entry)) (now (text .entry)) (now (text .exit)) (r .answer) (r .size) ⌝ }
+{
+    listing::print(words, text)
+}
+
+// Reads such a text back.
+#[no_mangle]
+pub extern "C" fn plus_read(text: &[u8], words: &mut [u16]) -> ReadBack
+    ensures { λ r. ⌜ Reading (now (text .entry)) (now (words .entry)) (now (words .exit)) (r .answer) (r .count) (r .line) ⌝ }
+{
+    listing::read(text, words)
 }

@@ -22,3 +22,10 @@ pub const NO_INTERRUPT: u8 = 5;
 
 /// The list has no STOP up to the end of RAM: forecast.
 pub const NO_STOP: u8 = 6;
+
+/// A line of the text is no word's: reading a listing.
+pub const NOT_LISTING: u8 = 7;
+
+/// The buffer has no room for all of the text or of the words: printing a
+/// listing, and reading one.
+pub const TOO_SMALL: u8 = 8;

@@ -1,5 +1,6 @@
 //! `include/plus.h` in Rust: the calls as the library exports them.
 
+use crate::listing::{Printed, ReadBack};
 use crate::{Chip, Length, State};
 
 #[repr(C)]
@@ -61,6 +62,18 @@ extern "C" {
         prescale: u8,
     ) -> Length;
     pub(crate) fn plus_grey(low: u8, high: u8) -> u8;
+    pub(crate) fn plus_print(
+        words: *const u16,
+        words_length: usize,
+        text: *mut u8,
+        text_length: usize,
+    ) -> Printed;
+    pub(crate) fn plus_read(
+        text: *const u8,
+        text_length: usize,
+        words: *mut u16,
+        words_length: usize,
+    ) -> ReadBack;
     pub(crate) fn plus_draw(
         chip: Chip,
         ram: *const u8,

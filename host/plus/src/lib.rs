@@ -6,7 +6,10 @@
 //! [`RAM`] bytes, the sprite pixel store of [`STORE`] bytes, and a line of
 //! [`LINE`] bytes to draw into. Every call answers one of the numbers in
 //! [`answer`]. With any other than [`answer::DONE`] the call was refused: chip
-//! and buffers are as they were, and all else in the answer is 0.
+//! and buffers are as they were, and all else in the answer is 0, but for the
+//! number of a bad line.
+//!
+//! [`listing`] prints a sound list as text and reads such a text back.
 //!
 //! A sound list forecast, then played on channel 0 up to its STOP:
 //!
@@ -39,6 +42,7 @@ mod chip;
 mod ffi;
 mod forecast;
 pub mod kind;
+pub mod listing;
 mod palette;
 mod state;
 
