@@ -1,4 +1,5 @@
-//! The chip as document 01 describes it, written from that document alone.
+//! The chip as document 01 describes it, and the requests after it, written from
+//! those documents alone.
 //!
 //! The state and its reset are here; each group of calls has its own file.
 
@@ -6,6 +7,7 @@ mod draw;
 mod forecast;
 mod interrupts;
 mod line;
+mod listing;
 mod lock;
 mod page;
 mod ports;
@@ -13,6 +15,7 @@ mod sound;
 
 pub use draw::byte_address;
 pub use forecast::{forecast, list};
+pub use listing::{print, read};
 pub use page::grey;
 
 use lock::History;
@@ -26,6 +29,8 @@ pub mod answer {
     pub const MODE_THREE: u8 = 4;
     pub const NO_INTERRUPT: u8 = 5;
     pub const NO_STOP: u8 = 6;
+    pub const NOT_LISTING: u8 = 7;
+    pub const TOO_SMALL: u8 = 8;
 }
 
 /// Lengths of the lent buffers.

@@ -3,6 +3,7 @@
 
 mod call;
 mod differ;
+pub mod listing;
 mod phrases;
 mod script;
 

@@ -4,6 +4,7 @@
 mod drawing;
 mod interrupts;
 mod line;
+mod listing;
 mod page;
 mod ports;
 mod sound;
@@ -12,6 +13,11 @@ pub use drawing::{HighestSpriteFirst, ModeThreeDrawn, ScrollOf3Bits};
 pub use interrupts::{AlwaysCleared, LowestFirst};
 pub use line::{
     AdvanceByRcAlone, RasterInAdjust, SplitLateInAdjust, SplitOnFirstLine, SteppedThoughRefused,
+};
+pub use listing::{
+    BadLineFrom0, BeyondCleared, BlankAfter, CarriageReturns, LeadingZero, LfLeftOut, LowerRead,
+    LowerWritten, NamedAsWord, PartPrinted, PartRead, Pause0AsWord, RoomBeforeForm, RoomForLongest,
+    StopBeforeInt, StrayPassedOver,
 };
 pub use page::{
     HighByteOfBits, LengthLast, PauseEndedByStart, PauseRestartedByDisable, WholePixel,

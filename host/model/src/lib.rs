@@ -1,5 +1,6 @@
-//! A model of the Plus chip in plain Rust, written from document 01 alone, and
-//! what holds the proved core against that document and this model.
+//! A model of the Plus chip in plain Rust, written from document 01 and the
+//! requests after it alone, and what holds the proved core against those and
+//! against this model.
 //!
 //! - [`chip`] is the model. It knows nothing of the core.
 //! - [`machine`] has what core and model have in common: the calls, and the

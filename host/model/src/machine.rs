@@ -5,14 +5,22 @@
 mod convert;
 
 use crate::chip::{self, Did, Kind, Model};
+use plus::listing::{self, Printed, ReadBack};
 use plus::{kind, Chip, Length, Report, State};
 use std::marker::PhantomData;
 
-/// Makes four things of one list of the calls on a chip: the trait of all
-/// machines, the core as such a machine, what a fault may change, and the core
-/// with a fault.
+/// Makes four things of one list of the calls, those on a chip and then those
+/// that take none: the trait of all machines, the core as such a machine, what a
+/// fault may change, and the core with a fault.
 macro_rules! calls {
-    ($($(#[$about:meta])* fn $call:ident($($name:ident: $type:ty),*) -> $answer:ty;)*) => {
+    (
+        chip {$(
+            $(#[$about:meta])* fn $call:ident($($name:ident: $type:ty),*) -> $answer:ty;
+        )*}
+        no_chip {$(
+            $(#[$of:meta])* fn $free:ident($($given:ident: $kind:ty),*) -> $gives:ty = $core:path;
+        )*}
+    ) => {
         /// A chip under test.
         pub trait Machine {
             /// The chip after reset.
@@ -24,13 +32,9 @@ macro_rules! calls {
             /// Puts it into a state. A lock's stage is 0 to 16.
             fn put(&mut self, state: State);
 
-            /// The forecast of a sound list, which takes no chip.
-            fn forecast(ram: &[u8], start: u16, prescale: u8) -> Length;
-
-            /// The grey of a palette entry's two bytes, which takes none either.
-            fn grey(low: u8, high: u8) -> u8;
-
             $($(#[$about])* fn $call(&mut self, $($name: $type),*) -> $answer;)*
+
+            $($(#[$of])* fn $free($($given: $kind),*) -> $gives;)*
         }
 
         impl Machine for Chip {
@@ -46,28 +50,23 @@ macro_rules! calls {
                 *self = Chip::from(state);
             }
 
-            fn forecast(ram: &[u8], start: u16, prescale: u8) -> Length {
-                plus::forecast(ram, start, prescale)
-            }
-
-            fn grey(low: u8, high: u8) -> u8 {
-                plus::grey(low, high)
-            }
-
             $(fn $call(&mut self, $($name: $type),*) -> $answer {
                 Chip::$call(self, $($name),*)
+            })*
+
+            $(fn $free($($given: $kind),*) -> $gives {
+                $core($($given),*)
             })*
         }
 
         /// A fault: the calls that it spoils. All others are the core's.
         pub trait Fault {
-            /// The forecast of a sound list.
-            fn forecast(ram: &[u8], start: u16, prescale: u8) -> Length {
-                plus::forecast(ram, start, prescale)
-            }
-
             $($(#[$about])* fn $call(chip: &mut Chip, $($name: $type),*) -> $answer {
                 chip.$call($($name),*)
+            })*
+
+            $($(#[$of])* fn $free($($given: $kind),*) -> $gives {
+                $core($($given),*)
             })*
         }
 
@@ -84,45 +83,57 @@ macro_rules! calls {
                 self.0 = Chip::from(state);
             }
 
-            fn forecast(ram: &[u8], start: u16, prescale: u8) -> Length {
-                F::forecast(ram, start, prescale)
-            }
-
-            fn grey(low: u8, high: u8) -> u8 {
-                plus::grey(low, high)
-            }
-
             $(fn $call(&mut self, $($name: $type),*) -> $answer {
                 F::$call(&mut self.0, $($name),*)
+            })*
+
+            $(fn $free($($given: $kind),*) -> $gives {
+                F::$free($($given),*)
             })*
         }
     };
 }
 
 calls! {
-    /// A byte to BCxx.
-    fn write_bc(byte: u8) -> u8;
+    chip {
+        /// A byte to BCxx.
+        fn write_bc(byte: u8) -> u8;
 
-    /// A 6845 data write.
-    fn write_bd(byte: u8) -> u8;
+        /// A 6845 data write.
+        fn write_bd(byte: u8) -> u8;
 
-    /// A byte to 7Fxx.
-    fn write_7f(byte: u8) -> u8;
+        /// A byte to 7Fxx.
+        fn write_7f(byte: u8) -> u8;
 
-    /// A page read: the answer and the byte.
-    fn page_read(store: &[u8], address: u16, bus: u8) -> (u8, u8);
+        /// A page read: the answer and the byte.
+        fn page_read(store: &[u8], address: u16, bus: u8) -> (u8, u8);
 
-    /// A page write.
-    fn page_write(store: &mut [u8], address: u16, byte: u8) -> u8;
+        /// A page write.
+        fn page_write(store: &mut [u8], address: u16, byte: u8) -> u8;
 
-    /// An acknowledge: the answer and the vector.
-    fn acknowledge() -> (u8, u8);
+        /// An acknowledge: the answer and the vector.
+        fn acknowledge() -> (u8, u8);
 
-    /// A line step.
-    fn step(ram: &[u8]) -> (u8, Report);
+        /// A line step.
+        fn step(ram: &[u8]) -> (u8, Report);
 
-    /// The current line drawn.
-    fn draw(ram: &[u8], store: &[u8], line: &mut [u8]) -> u8;
+        /// The current line drawn.
+        fn draw(ram: &[u8], store: &[u8], line: &mut [u8]) -> u8;
+    }
+
+    no_chip {
+        /// The forecast of a sound list.
+        fn forecast(ram: &[u8], start: u16, prescale: u8) -> Length = plus::forecast;
+
+        /// The grey of a palette entry's two bytes.
+        fn grey(low: u8, high: u8) -> u8 = plus::grey;
+
+        /// Words printed as text.
+        fn print(words: &[u16], text: &mut [u8]) -> Printed = listing::print;
+
+        /// A text read back as words.
+        fn read(text: &[u8], words: &mut [u16]) -> ReadBack = listing::read;
+    }
 }
 
 /// The core with a fault.
@@ -139,27 +150,6 @@ impl Machine for Model {
 
     fn put(&mut self, state: State) {
         *self = Model::from(state);
-    }
-
-    fn forecast(ram: &[u8], start: u16, prescale: u8) -> Length {
-        let (answer, lines, cycles) = chip::forecast(ram, start, prescale);
-        let list = chip::list(ram, start);
-        let offset = if list.is_empty() {
-            0
-        } else {
-            list.as_ptr() as usize - ram.as_ptr() as usize
-        };
-        Length {
-            answer,
-            lines,
-            cycles,
-            offset: offset as u32,
-            length: list.len() as u32,
-        }
-    }
-
-    fn grey(low: u8, high: u8) -> u8 {
-        chip::grey(low, high)
     }
 
     fn write_bc(&mut self, byte: u8) -> u8 {
@@ -193,6 +183,41 @@ impl Machine for Model {
 
     fn draw(&mut self, ram: &[u8], store: &[u8], line: &mut [u8]) -> u8 {
         Model::draw(self, ram, store, line)
+    }
+
+    fn forecast(ram: &[u8], start: u16, prescale: u8) -> Length {
+        let (answer, lines, cycles) = chip::forecast(ram, start, prescale);
+        let list = chip::list(ram, start);
+        let offset = if list.is_empty() {
+            0
+        } else {
+            list.as_ptr() as usize - ram.as_ptr() as usize
+        };
+        Length {
+            answer,
+            lines,
+            cycles,
+            offset: offset as u32,
+            length: list.len() as u32,
+        }
+    }
+
+    fn grey(low: u8, high: u8) -> u8 {
+        chip::grey(low, high)
+    }
+
+    fn print(words: &[u16], text: &mut [u8]) -> Printed {
+        let (answer, size) = chip::print(words, text);
+        Printed { answer, size }
+    }
+
+    fn read(text: &[u8], words: &mut [u16]) -> ReadBack {
+        let (answer, count, line) = chip::read(text, words);
+        ReadBack {
+            answer,
+            count,
+            line,
+        }
     }
 }
 

@@ -152,3 +152,49 @@ pub fn any_word(random: &mut Random) -> u16 {
         _ => [0x3, 0x5, 0x8, 0xF][random.below(4) as usize] << 12 | random.next() as u16 & 0x0FFF,
     }
 }
+
+/// Any word, with each form of its line about as often.
+pub fn mixed_word(random: &mut Random) -> u16 {
+    let low = random.next() as u16 & 0x0FFF;
+    // Numbers of one to four digits.
+    let count = random.pick(&[10, 100, 1000, 4096]);
+    match random.below(6) {
+        0 => low,
+        1 => 0x1000 | (low % count),
+        2 => 0x2000 | (low % count),
+        3 => 0x4000 | low & 0x0031,
+        4 => 0x4000 | low,
+        _ => random.pick(&[0x3, 0x5, 0x6, 0x7, 0x8, 0xB, 0xE, 0xF]) << 12 | low,
+    }
+}
+
+/// A text of a listing with one byte changed, put in or taken out.
+pub fn changed(random: &mut Random, text: &[u8]) -> Vec<u8> {
+    let mut text = text.to_vec();
+    let at = random.below(text.len() as u64) as usize;
+    match random.below(3) {
+        0 => {
+            let old = text[at];
+            while text[at] == old {
+                text[at] = listing_byte(random);
+            }
+        }
+        1 => text.insert(at + random.below(2) as usize, listing_byte(random)),
+        _ => {
+            text.remove(at);
+        }
+    }
+    text
+}
+
+/// Any byte, mostly one of a listing's own.
+fn listing_byte(random: &mut Random) -> u8 {
+    match random.below(8) {
+        0 => random.byte(),
+        1 => b' ',
+        2 => b'\n',
+        3 => random.pick(b"+\r-:@Gaf\0\xB2"),
+        4 => random.pick(b"LOADPUSERTINW"),
+        _ => random.pick(b"0123456789ABCDEF"),
+    }
+}

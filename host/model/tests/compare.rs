@@ -1,7 +1,7 @@
 //! The core against the model over a million random calls, and that the
 //! comparison can fail.
 
-use model::compare::{compare, Call};
+use model::compare::{compare, listing, Call};
 use model::machine::{Fault, Faulty};
 use model::{fault, Model};
 
@@ -87,4 +87,38 @@ caught! {
 fn a_byte_that_differs_is_named() {
     let difference = compare::<Faulty<fault::WholePixel>>(1_000_000, 1).unwrap_err();
     assert!(difference.how.contains("of the store"), "{difference}");
+}
+
+#[test]
+fn printer_and_reader_are_the_models() {
+    if let Err(difference) = listing::each_word::<Model>() {
+        panic!("{difference}");
+    }
+    match listing::changed_texts::<Model>(200_000, 1) {
+        Err(difference) => panic!("{difference}"),
+        Ok(answers) => {
+            println!("{answers:?}");
+            assert_eq!(answers.iter().sum::<u64>(), 200_000);
+            for number in [0, 7, 8] {
+                assert!(answers[number] >= 2_000, "{answers:?}");
+            }
+        }
+    }
+}
+
+/// A test for each fault of the printer or the reader: it is seen.
+macro_rules! listing_caught {
+    ($($fault:ident),+) => {$(
+        #[test]
+        #[allow(non_snake_case)]
+        fn $fault() {
+            assert!(listing::changed_texts::<Faulty<fault::$fault>>(200_000, 1).is_err());
+        }
+    )+};
+}
+
+listing_caught! {
+    LowerWritten, Pause0AsWord, StrayPassedOver, StopBeforeInt, RoomForLongest, PartPrinted,
+    BeyondCleared, LeadingZero, NamedAsWord, LowerRead, CarriageReturns, BlankAfter, LfLeftOut,
+    RoomBeforeForm, BadLineFrom0, PartRead
 }

@@ -5,12 +5,14 @@
 //! run.
 
 use model::chip::{self, Model};
+use model::random::{mixed_word, Random};
 use model::under_test::UnderTest;
+use plus::listing::{self, LONGEST_LINE};
 use plus::{Chip, LINE, RAM, STORE};
 use std::env;
 use std::hint::black_box;
 use std::process::ExitCode;
-use std::time::Instant;
+use std::time::{Duration, Instant};
 
 /// What a case calls.
 #[derive(Clone, Copy)]
@@ -21,6 +23,8 @@ enum Work {
     Draw,
     Frame,
     Forecast,
+    Print,
+    Read,
 }
 
 /// A row of the table: how many calls one timed run makes, how many sprites are
@@ -46,7 +50,7 @@ const fn case(name: &'static str, work: Work, count: usize, sprites: u16, mode: 
     }
 }
 
-const CASES: [Case; 12] = [
+const CASES: [Case; 14] = [
     case("line step", Work::Step, 100_000, 0, 1),
     case("page write", Work::PageWrite, 100_000, 0, 1),
     case("page read", Work::PageRead, 100_000, 0, 1),
@@ -62,14 +66,21 @@ const CASES: [Case; 12] = [
     case("frame of 312 lines, no sprite", Work::Frame, 10, 0, 1),
     case("frame of 312 lines, 16 sprites", Work::Frame, 10, 16, 1),
     case("forecast, 32,767 words", Work::Forecast, 20, 0, 1),
+    case("print, 30,000 words", Work::Print, 20, 0, 1),
+    case("read, 30,000 words", Work::Read, 20, 0, 1),
 ];
 
 /// What both are given: RAM with a screen and a list that never ends before its
-/// last word, and a store of opaque pixels.
+/// last word, a store of opaque pixels, words of all kinds and their text, and
+/// room for both.
 struct Lent {
     ram: Vec<u8>,
     store: Vec<u8>,
     line: Vec<u8>,
+    words: Vec<u16>,
+    text: Vec<u8>,
+    text_room: Vec<u8>,
+    words_room: Vec<u16>,
 }
 
 fn lent() -> Lent {
@@ -82,10 +93,16 @@ fn lent() -> Lent {
     let store = (0..STORE)
         .map(|i| if i % 16 < 4 { 0 } else { (i % 15 + 1) as u8 })
         .collect();
+    let mut random = Random(53);
+    let words: Vec<u16> = (0..30_000).map(|_| mixed_word(&mut random)).collect();
     Lent {
         ram,
         store,
         line: vec![0; LINE],
+        text: listing::text_of(&words),
+        text_room: vec![0; LONGEST_LINE * words.len()],
+        words_room: vec![0; words.len()],
+        words,
     }
 }
 
@@ -104,61 +121,67 @@ fn set_up<M: UnderTest>(case: &Case) -> M {
     machine
 }
 
-/// The calls of each case, written once for both: they have calls of the same
-/// names, and are called here with nothing between.
+/// The calls of each case and the time they take, written once for both: they
+/// have calls of the same names, and are called here with nothing between.
 macro_rules! calls_of {
-    ($run:ident, $machine:ident, $forecast:path) => {
-        fn $run(case: &Case, count: usize) {
-            let mut machine: $machine = set_up(case);
-            let Lent {
-                ram,
-                mut store,
-                mut line,
-            } = lent();
+    ($run:ident, $machine:ident, $forecast:path, $print:path, $read:path) => {
+        fn $run(case: &Case, count: usize) -> Duration {
+            let (mut machine, mut lent) = (set_up::<$machine>(case), lent());
             if case.transparent {
-                store.fill(0);
+                lent.store.fill(0);
             }
+            let start = Instant::now();
             match case.work {
                 Work::Step => repeat(count, |_| {
-                    black_box(machine.step(&ram));
+                    black_box(machine.step(&lent.ram));
                 }),
                 Work::PageWrite => repeat(count, |i| {
-                    black_box(machine.page_write(&mut store, 0x6400 + i as u16 % 64, i as u8));
+                    let address = 0x6400 + i as u16 % 64;
+                    black_box(machine.page_write(&mut lent.store, address, i as u8));
                 }),
                 Work::PageRead => repeat(count, |i| {
-                    black_box(machine.page_read(&store, 0x6400 + i as u16 % 64, 0));
+                    black_box(machine.page_read(&lent.store, 0x6400 + i as u16 % 64, 0));
                 }),
                 Work::Draw => repeat(count, |_| {
-                    black_box(machine.draw(&ram, &store, &mut line));
+                    black_box(machine.draw(&lent.ram, &lent.store, &mut lent.line));
                 }),
                 Work::Frame => repeat(312 * count, |_| {
-                    black_box(machine.draw(&ram, &store, &mut line));
-                    black_box(machine.step(&ram));
+                    black_box(machine.draw(&lent.ram, &lent.store, &mut lent.line));
+                    black_box(machine.step(&lent.ram));
                 }),
                 Work::Forecast => repeat(count, |_| {
-                    black_box($forecast(&ram, 0, 0));
+                    black_box($forecast(&lent.ram, 0, 0));
+                }),
+                Work::Print => repeat(count, |_| {
+                    black_box($print(&lent.words, &mut lent.text_room));
+                }),
+                Work::Read => repeat(count, |_| {
+                    black_box($read(&lent.text, &mut lent.words_room));
                 }),
             }
-            black_box((&machine, &line));
+            black_box((&machine, &lent.line, &lent.text_room, &lent.words_room));
+            start.elapsed()
         }
     };
 }
 
-calls_of!(run_core, Chip, plus::forecast);
-calls_of!(run_model, Model, chip::forecast);
+calls_of!(
+    run_core,
+    Chip,
+    plus::forecast,
+    listing::print,
+    listing::read
+);
+calls_of!(run_model, Model, chip::forecast, chip::print, chip::read);
 
 fn repeat(count: usize, call: impl FnMut(usize)) {
     (0..count).for_each(call);
 }
 
 /// Nanoseconds a call: the least of nine runs.
-fn nanoseconds(run: fn(&Case, usize), case: &Case) -> f64 {
+fn nanoseconds(run: fn(&Case, usize) -> Duration, case: &Case) -> f64 {
     (0..9)
-        .map(|_| {
-            let start = Instant::now();
-            run(case, case.count);
-            start.elapsed().as_nanos() as f64 / case.count as f64
-        })
+        .map(|_| run(case, case.count).as_nanos() as f64 / case.count as f64)
         .fold(f64::MAX, f64::min)
 }
 
@@ -182,7 +205,7 @@ fn one_case(arguments: &[String]) -> Option<()> {
         "core" => run_core(case, count),
         "model" => run_model(case, count),
         _ => return None,
-    }
+    };
     Some(())
 }
 

@@ -1,11 +1,12 @@
 //! Compares the core with the model: `compare [CALLS [SEED]]`, by default one
-//! million calls from seed 1.
+//! million calls from seed 1. Every word is printed and read too, and a text for
+//! every five calls.
 
 use std::env;
 use std::process::ExitCode;
 use std::time::Instant;
 
-use model::compare::compare;
+use model::compare::{compare, listing};
 use model::Model;
 
 fn main() -> ExitCode {
@@ -21,15 +22,24 @@ fn main() -> ExitCode {
         }
     };
     let begun = Instant::now();
-    match compare::<Model>(count, seed) {
-        Ok(tally) => {
-            print!("{tally}");
+    match compared(count, seed) {
+        Ok(()) => {
             println!("no difference, {:.1} s", begun.elapsed().as_secs_f64());
             ExitCode::SUCCESS
         }
         Err(difference) => {
-            print!("{difference}");
+            println!("{difference}");
             ExitCode::FAILURE
         }
     }
+}
+
+/// Prints what was compared, or gives the first difference.
+fn compared(count: u64, seed: u64) -> Result<(), String> {
+    let tally = compare::<Model>(count, seed).map_err(|difference| difference.to_string())?;
+    print!("{tally}");
+    listing::each_word::<Model>()?;
+    let answers = listing::changed_texts::<Model>(count / 5, seed)?;
+    println!("{} texts, {} of them refused 7", count / 5, answers[7]);
+    Ok(())
 }

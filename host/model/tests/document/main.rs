@@ -1,5 +1,6 @@
-//! Document 01 held against the core and against the model, a file for each part
-//! of it. Every expected value is the document's or worked out beside the test.
+//! Document 01, and the requests after it, held against the core and against the
+//! model, a file for each part. Every expected value is the documents' or worked
+//! out beside the test.
 
 // A test that no machine is held to would be dead code.
 #![deny(dead_code)]
@@ -8,6 +9,7 @@ mod drawing;
 mod forecast;
 mod interrupts;
 mod line;
+mod listing;
 mod lock;
 mod page;
 mod ports;
