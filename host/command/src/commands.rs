@@ -3,6 +3,8 @@
 mod forecast;
 mod frame;
 mod install;
+mod list;
+mod read;
 mod run;
 
 use crate::failure::Failure;
@@ -13,8 +15,9 @@ use std::ffi::OsString;
 use std::fs;
 use std::path::Path;
 
-/// A command: its name, what it is given, what it does in a line, all that there
-/// is to know of it, and the function that does it.
+/// A command: its name, what it is given (in brackets and last what may be left
+/// out), what it does in a line, all that there is to know of it, and the function
+/// that does it.
 pub struct Command {
     pub name: &'static str,
     pub arguments: &'static [&'static str],
@@ -26,6 +29,8 @@ pub struct Command {
 /// All of them, in the order of the help.
 pub const COMMANDS: &[Command] = &[
     forecast::COMMAND,
+    list::COMMAND,
+    read::COMMAND,
     run::COMMAND,
     frame::COMMAND,
     install::COMMAND,
@@ -61,13 +66,13 @@ impl Command {
             let wrong = format!("there is no option '{}'", option.display());
             return Err(help::wrong_for(self, &wrong));
         }
-        let (given, expected) = (words.len(), self.arguments.len());
-        if given < expected {
-            let wrong = format!("{} is missing", self.arguments[given]);
+        let missing = self.arguments.get(words.len());
+        if let Some(argument) = missing.filter(|argument| !argument.starts_with('[')) {
+            let wrong = format!("{argument} is missing");
             return Err(help::wrong_for(self, &wrong));
         }
-        if given > expected {
-            let wrong = format!("'{}' is one argument too many", words[expected].display());
+        if let Some(extra) = words.get(self.arguments.len()) {
+            let wrong = format!("'{}' is one argument too many", extra.display());
             return Err(help::wrong_for(self, &wrong));
         }
         (self.run)(words, output)
@@ -81,6 +86,6 @@ fn is_option(word: &OsString) -> bool {
 }
 
 /// A whole file.
-fn read(path: &Path) -> Result<Vec<u8>, Failure> {
+fn contents(path: &Path) -> Result<Vec<u8>, Failure> {
     fs::read(path).map_err(Failure::file(path))
 }

@@ -11,8 +11,13 @@ use std::process::ExitCode;
 pub enum Failure {
     /// Wrong use: what was wrong, and what is expected.
     Usage { wrong: String, expected: String },
-    /// A call of the core was refused: its number, and what that means here.
-    Refused { number: u8, meaning: String },
+    /// A call of the core was refused: its number, the line of a text that it
+    /// names, and what that means here.
+    Refused {
+        number: u8,
+        line: Option<usize>,
+        meaning: String,
+    },
     /// A file can't be read or written.
     File { path: PathBuf, error: io::Error },
     /// A scene ends early.
@@ -22,6 +27,15 @@ pub enum Failure {
 }
 
 impl Failure {
+    /// A refusal that names no line.
+    pub fn refused(number: u8, meaning: String) -> Failure {
+        Failure::Refused {
+            number,
+            line: None,
+            meaning,
+        }
+    }
+
     /// For a file that was named on the command line.
     pub fn file(path: &Path) -> impl FnOnce(io::Error) -> Failure + '_ {
         move |error| Failure::File {
@@ -51,7 +65,17 @@ impl fmt::Display for Failure {
     fn fmt(&self, f: &mut fmt::Formatter) -> fmt::Result {
         match self {
             Failure::Usage { wrong, expected } => write!(f, "{wrong}\n{expected}"),
-            Failure::Refused { number, meaning } => write!(f, "refused {number}: {meaning}"),
+            Failure::Refused {
+                number,
+                line,
+                meaning,
+            } => {
+                write!(f, "refused {number}")?;
+                if let Some(line) = line {
+                    write!(f, " line {line}")?;
+                }
+                write!(f, ": {meaning}")
+            }
             Failure::File { path, error } => write!(f, "{}: {error}", path.display()),
             Failure::Short { path, short } => write!(f, "{}: {short}", path.display()),
             Failure::Output(error) => write!(f, "standard output: {error}"),

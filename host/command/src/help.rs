@@ -10,8 +10,9 @@ use std::ffi::OsString;
 const COMMON: &str = "\
 Exit status: 0 done; 1 refused by the core, a file that can't be read or
 written, or a scene that ends early; 2 wrong use. Why is said on standard
-error; a refusal begins with `refused` and its number, prints nothing on
-standard output and leaves an output file alone.";
+error; a refusal begins with `refused` and its number, then for a bad line of
+a text `line` and the line's number. It prints nothing on standard output and
+leaves an output file alone.";
 
 /// `plus help [COMMAND]`.
 pub fn show(words: &[OsString], output: &mut Output) -> Done {

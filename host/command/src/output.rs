@@ -19,6 +19,11 @@ impl Output {
         writeln!(self.0, "{text}").map_err(Failure::Output)
     }
 
+    /// A text as it is.
+    pub fn text(&mut self, text: &[u8]) -> Done {
+        self.0.write_all(text).map_err(Failure::Output)
+    }
+
     /// All that still waits.
     pub fn finish(&mut self) -> Done {
         self.0.flush().map_err(Failure::Output)

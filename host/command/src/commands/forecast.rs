@@ -10,8 +10,8 @@ use std::fs::File;
 use std::io::Read;
 use std::path::Path;
 
-/// Where the list begins.
-const START: u16 = 0x8000;
+/// Where a list begins.
+pub const START: u16 = 0x8000;
 
 pub const COMMAND: Command = Command {
     name: "forecast",
@@ -30,16 +30,7 @@ length (1) and a list without a STOP up to the end of RAM (6).",
 
 fn run(arguments: &[OsString], output: &mut Output) -> Done {
     let path = Path::new(&arguments[0]);
-    let image = image(path)?;
-    let Length {
-        answer,
-        lines,
-        cycles,
-        ..
-    } = plus::forecast(&image, START, 0);
-    if answer != answer::DONE {
-        return Err(refused(answer, path));
-    }
+    let Length { lines, cycles, .. } = told(&image(path)?, START, path)?;
     output.line(format_args!("lines {lines} cycles {cycles}"))
 }
 
@@ -52,11 +43,14 @@ fn image(path: &Path) -> Result<Vec<u8>, Failure> {
     Ok(image)
 }
 
-fn refused(number: u8, path: &Path) -> Failure {
+/// The forecast of a file's list.
+pub fn told(image: &[u8], start: u16, path: &Path) -> Result<Length, Failure> {
+    let told = plus::forecast(image, start, 0);
     let name = path.display();
-    let meaning = match number {
-        answer::NO_STOP => format!("{name} has no STOP from {START:04X}h on"),
+    let meaning = match told.answer {
+        answer::DONE => return Ok(told),
+        answer::NO_STOP => format!("{name} has no STOP from {:04X}h on", start & 0xFFFE),
         _ => format!("{name} is not an image of {RAM} bytes"),
     };
-    Failure::Refused { number, meaning }
+    Err(Failure::refused(told.answer, meaning))
 }

@@ -1,6 +1,6 @@
 //! `plus frame FILE OUT.png`.
 
-use super::{read, Command};
+use super::{contents, Command};
 use crate::failure::Failure;
 use crate::frame::next_frame;
 use crate::output::Output;
@@ -27,14 +27,14 @@ picture's width and height. A chip in mode 3 is refused (4).",
 
 fn run(arguments: &[OsString], output: &mut Output) -> Done {
     let (input, picture) = (Path::new(&arguments[0]), Path::new(&arguments[1]));
-    let file = read(input)?;
+    let file = contents(input)?;
     let mut player = played(&file).map_err(|short| Failure::Short {
         path: input.to_owned(),
         short,
     })?;
-    let rows = next_frame(&mut player).map_err(|number| Failure::Refused {
-        number,
-        meaning: format!("{} leads to screen mode 3", input.display()),
+    let rows = next_frame(&mut player).map_err(|number| {
+        let meaning = format!("{} leads to screen mode 3", input.display());
+        Failure::refused(number, meaning)
     })?;
     fs::write(picture, png::encode(LINE, &rows)).map_err(Failure::file(picture))?;
     output.line(format_args!("{LINE} x {}", rows.len()))

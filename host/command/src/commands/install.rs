@@ -1,6 +1,6 @@
 //! `plus install PREFIX`.
 
-use super::{read, Command};
+use super::{contents, Command};
 use crate::failure::Failure;
 use crate::help;
 use crate::output::Output;
@@ -48,7 +48,7 @@ fn run(arguments: &[OsString], output: &mut Output) -> Done {
         ("include/plus.h", HEADER, 0o644),
         ("lib/libplus.a", LIBRARY, 0o644),
         ("lib/pkgconfig/plus.pc", flags.as_bytes(), 0o644),
-        ("bin/plus", &read(&program)?, 0o755),
+        ("bin/plus", &contents(&program)?, 0o755),
     ];
     for (name, contents, mode) in files {
         let path = prefix.join(name);

@@ -1,6 +1,6 @@
 //! `plus run FILE`.
 
-use super::{read, Command};
+use super::{contents, Command};
 use crate::failure::Failure;
 use crate::lines;
 use crate::output::Output;
@@ -37,7 +37,7 @@ and where it ends is said on standard error.",
 
 fn run(arguments: &[OsString], output: &mut Output) -> Done {
     let path = Path::new(&arguments[0]);
-    let Some(short) = played(&read(path)?, output)? else {
+    let Some(short) = played(&contents(path)?, output)? else {
         return Ok(());
     };
     output.line(lines::SHORT)?;

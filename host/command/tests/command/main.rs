@@ -4,6 +4,8 @@
 mod forecast;
 mod frame;
 mod install;
+mod list;
+mod read;
 mod run;
 mod tools;
 mod usage;

@@ -5,8 +5,10 @@ use std::ffi::OsStr;
 use std::os::unix::ffi::OsStrExt;
 
 /// Each command with its arguments.
-const COMMANDS: [(&str, &[&str]); 4] = [
+const COMMANDS: [(&str, &[&str]); 6] = [
     ("forecast", &["FILE"]),
+    ("list", &["FILE", "[START]"]),
+    ("read", &["TEXT", "OUT"]),
     ("run", &["FILE"]),
     ("frame", &["FILE", "OUT.png"]),
     ("install", &["PREFIX"]),
@@ -16,6 +18,8 @@ const OVERVIEW: &str = "\
 usage: plus COMMAND ...
 
   forecast FILE        how long the sound list of a RAM image plays
+  list FILE [START]    a sound list as text, a line a word
+  read TEXT OUT        the words of such a text, put into a file
   run FILE             what each record of a scene answers
   frame FILE OUT.png   a picture of the frame that a scene leads to
   install PREFIX       header, library, pkg-config file and this program
@@ -78,9 +82,10 @@ fn missing_and_extra_arguments() {
                 format!("plus: {command}: {wrong}\n{expected}`plus help {command}` says more\n");
             plus(words).fails(2, &said);
         };
-        for given in 0..arguments.len() {
-            let wrong = format!("{} is missing", arguments[given]);
-            fails(&["x"; 2][..given], &wrong);
+        for (given, argument) in arguments.iter().enumerate() {
+            if !argument.starts_with('[') {
+                fails(&["x"; 2][..given], &format!("{argument} is missing"));
+            }
         }
         let mut words = vec!["x"; arguments.len()];
         words.push("more");
