@@ -66,7 +66,7 @@ class Chip:
             return 2
         if a < 0x5000:
             store[a - 0x4000] = byte & 15
-        elif 0x6000 <= a < 0x6080 and a % 8 < 5:
+        elif 0x6000 <= a < 0x6080:
             s, place = self.sprites[(a - 0x6000) // 8], a % 8
             if place == 0:
                 s[0] = s[0] & 0x300 | byte

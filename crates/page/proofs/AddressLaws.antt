@@ -69,7 +69,7 @@ module _ (a : ℕ) where
 
   sprite-stands : (o : ℕ) → Stands (spriteAt o)
   unfolding spriteAt
-  sprite-stands o = either-way (leb 5 (o % 8)) _ _ tt tt
+  sprite-stands o = tt
 
   video-stands : (o : ℕ) → Stands (videoAt o)
   unfolding videoAt

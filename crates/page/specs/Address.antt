@@ -10,9 +10,9 @@ use Rattle.page.specs.declared.address.ChannelRegister.the-variants.{Sta
 use Rattle.page.specs.declared.address.Register.{Register}
 use Rattle.page.specs.declared.address.Register.the-variants.{Pixel, Sprite, Palette, Video, Ivr, Converter, Channel, Dcsr, Status, Empty}
 
--- 6000h + 8n: sprite n, with X low, X high, Y low, Y high and magnification at +0 to +4, and nothing at +5 to +7
+-- 6000h + 8n: sprite n, with X low, X high, Y low and Y high at +0 to +3; magnification is place 4, at +4 and its mirrors up to +7
 unfoldable pub spriteAt : ℕ → Register
-spriteAt o = if (leb 5 (o % 8)) Empty (Sprite (o / 8) (o % 8))
+spriteAt o = Sprite (o / 8) (if (ltb (o % 8) 4) (o % 8) 4)
 
 -- from 6800h on: PRI, the split's line, the high and the low byte of its address, SSCR, IVR; nothing at 6806h and 6807h; then, up to
 -- 680Fh, the converters

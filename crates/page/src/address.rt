@@ -34,16 +34,17 @@ pub enum Register {
     Empty,
 }
 
-// At 6000h + offset.
+// At 6000h + offset: from +4 on stand magnification and its mirrors.
 fn sprite_at(offset: u16) -> Register
     requires { ⌜ offset < 128 ⌝ }
     ensures { λ r. ⌜ Decodes (spriteAt offset) r ⌝ }
 {
+    let n = (offset / 8) as usize;
     let place = (offset % 8) as u8;
-    if 5 <= place {
-        return Register::Empty;
+    if place < 4 {
+        return Register::Sprite(n, place);
     }
-    Register::Sprite((offset / 8) as usize, place)
+    Register::Sprite(n, 4)
 }
 
 // At 6800h + offset.

@@ -20,7 +20,7 @@ pub use listing::{
     StopBeforeInt, StrayPassedOver,
 };
 pub use page::{
-    HighByteOfBits, LengthLast, PauseEndedByStart, PauseRestartedByDisable, WholePixel,
+    HighByteOfBits, LengthLast, NoMirrors, PauseEndedByStart, PauseRestartedByDisable, WholePixel,
 };
 pub use ports::{LockingUnmaps, LostZero, MappedAt10, UnlockedAtCd, WholeR4};
 pub use sound::{

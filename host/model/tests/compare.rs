@@ -73,7 +73,7 @@ caught! {
     write_bd: WholeR4;
     write_7f: MappedAt10;
     page_read: HighByteOfBits, LengthLast;
-    page_write: WholePixel, PauseEndedByStart, PauseRestartedByDisable;
+    page_write: WholePixel, NoMirrors, PauseEndedByStart, PauseRestartedByDisable;
     acknowledge: LowestFirst, AlwaysCleared;
     step: SteppedThoughRefused, RasterInAdjust, SplitLateInAdjust, SplitOnFirstLine,
         AdvanceByRcAlone, RepeatKTimes, OuterCountKept, EightRegisters, HighestChannelFirst,

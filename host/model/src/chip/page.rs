@@ -58,17 +58,15 @@ impl Sprite {
         }
     }
 
-    /// False if there is nothing to write.
-    fn write(&mut self, offset: u16, value: u8) -> bool {
+    /// Any of its eight bytes; magnification is at +4 and at its mirrors.
+    fn write(&mut self, offset: u16, value: u8) {
         match offset {
             0 => self.x = signed_x(with_low(self.x as u16, value)),
             1 => self.x = signed_x(with_high(self.x as u16, value)),
             2 => self.y = signed_y(with_low(self.y as u16, value)),
             3 => self.y = signed_y(with_high(self.y as u16, value)),
-            4 => self.magnification = value & 0x0F,
-            _ => return false,
+            _ => self.magnification = value & 0x0F,
         }
-        true
     }
 }
 
@@ -114,7 +112,8 @@ impl Model {
             }
             0x6000..=0x607F => {
                 let sprite = &mut self.sprites[(address as usize - 0x6000) / 8];
-                sprite.write(address % 8, value)
+                sprite.write(address % 8, value);
+                true
             }
             0x6400..=0x643F => {
                 let place = address as usize - 0x6400;

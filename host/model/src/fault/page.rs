@@ -28,6 +28,21 @@ impl Fault for HighByteOfBits {
     }
 }
 
+/// Only +4 sets magnification: the base as document 01 had it.
+pub struct NoMirrors;
+
+impl Fault for NoMirrors {
+    fn page_write(chip: &mut Chip, store: &mut [u8], address: u16, byte: u8) -> u8 {
+        let before = chip.clone();
+        let answer = chip.page_write(store, address, byte);
+        if answer == answer::DONE && (0x6000..0x6080).contains(&address) && address % 8 > 4 {
+            *chip = before;
+            return answer::NOTHING_THERE;
+        }
+        answer
+    }
+}
+
 /// A page that isn't mapped is told before a store of another length.
 pub struct LengthLast;
 

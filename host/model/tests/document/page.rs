@@ -9,7 +9,7 @@ use plus::{RAM, STORE};
 fn writable(address: u16) -> bool {
     match address {
         0x4000..=0x4FFF => true,
-        0x6000..=0x607F => address % 8 <= 4,
+        0x6000..=0x607F => true,
         0x6400..=0x643F => true,
         0x6800..=0x6805 => true,
         0x6C00..=0x6C0A => address % 4 < 3,
@@ -58,7 +58,7 @@ fn every_address_can_be_written_or_not<M: Machine>() {
             assert_eq!(store, lent, "{address:04X}");
         }
     }
-    assert_eq!(written, 4096 + 16 * 5 + 64 + 6 + 9 + 1);
+    assert_eq!(written, 4096 + 16 * 8 + 64 + 6 + 9 + 1);
 }
 
 held!(every_address_can_be_read_or_gives_the_bus_byte);

@@ -60,26 +60,33 @@ fn half_a_coordinate<M: Machine>() {
     }
 }
 
-held!(magnification_is_written_only);
+// At +4 and at its mirrors up to +7, which change nothing else.
+held!(magnification_is_written_only, fails_with NoMirrors);
 fn magnification_is_written_only<M: Machine>() {
     let mut chip = M::open();
+    let mut expected = chip.state();
     for n in 0..16u16 {
-        let at = 0x6004 + 8 * n;
-        for value in 0..=255u8 {
-            chip.poke(at, value);
-            assert_eq!(chip.state().sprites[n as usize].magnification, value & 0x0F);
-            assert_eq!(chip.peek(at, 0x5A), 0x5A);
+        for place in 4..8 {
+            let at = 0x6000 + 8 * n + place;
+            for value in 0..=255u8 {
+                chip.poke(at, value);
+                expected.sprites[n as usize].magnification = value & 0x0F;
+                assert_eq!(chip.state(), expected, "{at:04X}");
+                assert_eq!(chip.peek(at, 0x5A), 0x5A);
+            }
         }
-        // Nothing else of the sprite sets it.
-        let before = chip.state();
-        for offset in 1..4 {
-            assert_eq!(chip.page_write(&mut [0; STORE], at + offset, 5), 3);
-            assert_eq!(chip.state(), before);
+    }
+}
+
+held!(no_coordinate_sets_magnification);
+fn no_coordinate_sets_magnification<M: Machine>() {
+    let mut chip = M::open();
+    for n in 0..16u16 {
+        chip.poke(0x6004 + 8 * n, 0x0A);
+        for place in 0..4 {
+            chip.poke(0x6000 + 8 * n + place, 0x05);
         }
-        for offset in 1..=4 {
-            chip.poke(at - offset, 0x05);
-        }
-        assert_eq!(chip.state().sprites[n as usize].magnification, 0x0F);
+        assert_eq!(chip.state().sprites[n as usize].magnification, 0x0A);
     }
 }
 
