@@ -26,15 +26,16 @@ enum { PLUS_LONGEST_LINE = 14 };
 
 /* The numbers a call can answer. The lowest that applies is given. */
 enum {
-    PLUS_DONE = 0,          /* done */
-    PLUS_WRONG_LENGTH = 1,  /* a buffer has another length than its call wants */
-    PLUS_NOT_MAPPED = 2,    /* the page is not mapped, or the address is not in it (4000h to 7FFFh) */
-    PLUS_NOTHING_THERE = 3, /* no register there that could be written */
-    PLUS_MODE_THREE = 4,    /* a line in screen mode 3 can't be drawn */
-    PLUS_NO_INTERRUPT = 5,  /* nothing to acknowledge */
-    PLUS_NO_STOP = 6,       /* the list has no STOP up to the end of RAM */
-    PLUS_NOT_LISTING = 7,   /* a line of the text is no word's */
-    PLUS_TOO_SMALL = 8      /* the buffer has no room for all of the text, or of the words */
+    PLUS_DONE = 0,           /* done */
+    PLUS_WRONG_LENGTH = 1,   /* a buffer has another length than its call wants */
+    PLUS_NOT_MAPPED = 2,     /* the page is not mapped, or the address is not in it (4000h to 7FFFh) */
+    PLUS_NOTHING_THERE = 3,  /* no register there that could be written */
+    PLUS_MODE_THREE = 4,     /* a line in screen mode 3 can't be drawn */
+    PLUS_NO_INTERRUPT = 5,   /* nothing to acknowledge */
+    PLUS_NO_STOP = 6,        /* the list has no STOP up to the end of RAM */
+    PLUS_NOT_LISTING = 7,    /* a line of the text is no word's */
+    PLUS_TOO_SMALL = 8,      /* the buffer has no room for all of the text, or of the words */
+    PLUS_CONVERTER_THERE = 9 /* an analogue converter (6808h to 680Fh), which can only be read */
 };
 
 /* What a channel did on a line. */
@@ -179,7 +180,7 @@ PlusAnswered plus_write_7f(PlusChip chip, uint8_t byte);
 /* Reads the register page; `bus` comes back where nothing can be read. Answers 0, 1 or 2. */
 PlusByteRead plus_page_read(PlusChip chip, const uint8_t *store, size_t store_length, uint16_t address, uint8_t bus);
 
-/* Writes the register page; a pixel goes into the store. Answers 0, 1, 2 or 3. */
+/* Writes the register page; a pixel goes into the store. Answers 0, 1, 2, 3 or 9. */
 PlusAnswered plus_page_write(PlusChip chip, uint8_t *store, size_t store_length, uint16_t address, uint8_t byte);
 
 /* Serves the waiting interrupt that comes first and gives its vector. Answers 0 or 5. */

@@ -98,7 +98,7 @@ class Chip:
                 if byte >> 6 - n & 1:
                     self.channels[n].interrupt = False
         else:
-            return 3
+            return 9 if 0x6808 <= a < 0x6810 else 3
         return 0
 
     def dcsr(self):

@@ -23,7 +23,7 @@ use Rattle.page.specs.declared.address.ChannelRegister.the-variants.{Sta
 use Rattle.page.specs.declared.address.Register.{Register}
 use Rattle.page.specs.declared.address.Register.the-variants.{Pixel, Sprite as SpriteAt, Palette, Video as VideoAt, Ivr, Converter, Channel as ChannelAt, Dcsr, Status, Empty}
 use Rattle.chip.specs.State.{withVideo, withSprites, withPalette, withChannels, withIvr}
-use Rattle.words.specs.Answers.{done, wrongLength, notMapped, nothingThere, served}
+use Rattle.words.specs.Answers.{done, wrongLength, notMapped, nothingThere, converterThere, served}
 use Rattle.chip.specs.Contracts.{Answers}
 use Rattle.page.specs.Address.{registerAt}
 
@@ -32,24 +32,24 @@ unfoldable pub pageAnswer : Chip → ℕ → ℕ → ℕ → ℕ
 pageAnswer c size a rest =
     if (eqb size 4096) (if (both (both (leb 0x4000 a) (ltb a 0x8000)) (c .gate .mapped)) rest notMapped) wrongLength
 
--- a register that can be written: all but the converters and the addresses that only read, as DCSR does
-abbrev pub writable : Register → Bool
-writable (Pixel i) = true
-writable (SpriteAt n p) = true
-writable (Palette i) = true
-writable (VideoAt v) = true
-writable Ivr = true
-writable Converter = false
-writable (ChannelAt n r) = true
-writable Dcsr = true
-writable Status = false
-writable Empty = false
+-- what a write to a register answers: a converter has a number of its own; no register, or one that only shows DCSR, has another
+abbrev pub registerAnswer : Register → ℕ
+registerAnswer (Pixel i) = done
+registerAnswer (SpriteAt n p) = done
+registerAnswer (Palette i) = done
+registerAnswer (VideoAt v) = done
+registerAnswer Ivr = done
+registerAnswer Converter = converterThere
+registerAnswer (ChannelAt n r) = done
+registerAnswer Dcsr = done
+registerAnswer Status = nothingThere
+registerAnswer Empty = nothingThere
 
 unfoldable pub readAnswer : Chip → ℕ → ℕ → ℕ
 readAnswer c size a = pageAnswer c size a done
 
 unfoldable pub writeAnswer : Chip → ℕ → ℕ → ℕ
-writeAnswer c size a = pageAnswer c size a (if (writable (registerAt a)) done nothingThere)
+writeAnswer c size a = pageAnswer c size a (registerAnswer (registerAt a))
 
 -- sprite n's register at this place gets the byte
 abbrev pub spriteWritten : List Sprite → ℕ → ℕ → ℕ → List Sprite

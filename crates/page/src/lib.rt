@@ -10,6 +10,7 @@ use crtc::Video;
 use picture::sprite::Sprite;
 use sound::Channel;
 use sound::Sound;
+use words::answer::CONVERTER_THERE;
 use words::answer::DONE;
 use words::answer::NOT_MAPPED;
 use words::answer::NOTHING_THERE;
@@ -23,9 +24,8 @@ ghost use Rattle.words.specs.Choice.{if};
 ghost use Rattle.sound.specs.Channels.{withFlags};
 ghost use Rattle.picture.specs.Sprites.{offSprite, shown};
 ghost use Rattle.picture.specs.Palette.{keptByte};
-ghost use Rattle.words.specs.Answers.{done, nothingThere};
 ghost use Rattle.page.specs.Address.{Within};
-ghost use Rattle.page.specs.Page.{writable, pageAnswer, readAnswer, writeAnswer, spriteWritten, videoWritten, channelWritten, channelsWritten, dcsrWritten, registerWritten, Writes, dcsr, registerRead, Reads};
+ghost use Rattle.page.specs.Page.{registerAnswer, pageAnswer, readAnswer, writeAnswer, spriteWritten, videoWritten, channelWritten, channelsWritten, dcsrWritten, registerWritten, Writes, dcsr, registerRead, Reads};
 ghost use Rattle.page.specs.Flags.{Flagged};
 
 // A page read's answer: the number, the chip, the byte.
@@ -36,21 +36,21 @@ pub struct ByteRead {
     pub byte: u8,
 }
 
-// Whether a write to the register does something.
-fn writable(register: Register) -> bool
-    ensures { λ r. ⌜ r ≡ writable register ⌝ }
+// The answer number of a write to this register where the page is mapped.
+fn register_answer(register: Register) -> u8
+    ensures { λ r. ⌜ r ≡ registerAnswer register ⌝ }
 {
     match register {
-        Register::Pixel(_) => true,
-        Register::Sprite(_, _) => true,
-        Register::Palette(_) => true,
-        Register::Video(_) => true,
-        Register::Ivr => true,
-        Register::Converter => false,
-        Register::Channel(_, _) => true,
-        Register::Dcsr => true,
-        Register::Status => false,
-        Register::Empty => false,
+        Register::Pixel(_) => DONE,
+        Register::Sprite(_, _) => DONE,
+        Register::Palette(_) => DONE,
+        Register::Video(_) => DONE,
+        Register::Ivr => DONE,
+        Register::Converter => CONVERTER_THERE,
+        Register::Channel(_, _) => DONE,
+        Register::Dcsr => DONE,
+        Register::Status => NOTHING_THERE,
+        Register::Empty => NOTHING_THERE,
     }
 }
 
@@ -75,16 +75,13 @@ fn read_answer(chip: Chip, size: usize, address: u16) -> u8
 
 // The answer number of a page write to this register.
 fn write_answer(chip: Chip, size: usize, address: u16, register: Register) -> u8
-    ensures { λ r. ⌜ r ≡ pageAnswer chip size address (if (writable register) done nothingThere) ⌝ }
+    ensures { λ r. ⌜ r ≡ pageAnswer chip size address (registerAnswer register) ⌝ }
 {
     let answer = read_answer(chip, size, address);
     if answer != DONE {
         return answer;
     }
-    if !writable(register) {
-        return NOTHING_THERE;
-    }
-    DONE
+    register_answer(register)
 }
 
 // The sprites with one register written.

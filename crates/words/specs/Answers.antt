@@ -39,6 +39,10 @@ notListing = 7
 abbrev pub tooSmall : ℕ
 tooSmall = 8
 
+-- a converter there, which is only read
+abbrev pub converterThere : ℕ
+converterThere = 9
+
 -- what a served call gives, or what stands in its place where the number is a refusal
 abbrev pub served : {A : Type 0} → ℕ → A → A → A
 served number x other = if (eqb number done) x other

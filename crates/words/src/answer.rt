@@ -22,5 +22,8 @@ pub const NO_STOP: u8 = 6;
 // a text is not of the listing's form;
 pub const NOT_LISTING: u8 = 7;
 
-// the output buffer is too small.
+// the output buffer is too small;
 pub const TOO_SMALL: u8 = 8;
+
+// a converter there, which is only read.
+pub const CONVERTER_THERE: u8 = 9;

@@ -31,6 +31,7 @@ pub mod answer {
     pub const NO_STOP: u8 = 6;
     pub const NOT_LISTING: u8 = 7;
     pub const TOO_SMALL: u8 = 8;
+    pub const CONVERTER_THERE: u8 = 9;
 }
 
 /// Lengths of the lent buffers.

@@ -19,7 +19,7 @@ use std::fmt;
 pub struct Tally {
     pub scripts: u64,
     pub calls: u64,
-    pub answers: [[u64; 7]; Call::NAMES.len()],
+    pub answers: [[u64; 10]; Call::NAMES.len()],
 }
 
 impl Tally {

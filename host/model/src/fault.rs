@@ -20,7 +20,8 @@ pub use listing::{
     StopBeforeInt, StrayPassedOver,
 };
 pub use page::{
-    HighByteOfBits, LengthLast, NoMirrors, PauseEndedByStart, PauseRestartedByDisable, WholePixel,
+    HighByteOfBits, LengthLast, NoMirrors, OneKindOfNothing, PauseEndedByStart,
+    PauseRestartedByDisable, WholePixel,
 };
 pub use ports::{LockingUnmaps, LostZero, MappedAt10, UnlockedAtCd, WholeR4};
 pub use sound::{

@@ -20,7 +20,7 @@ fn core_is_the_model() {
         &[0, 3],
         &[0, 3],
         &[0, 1, 2],
-        &[0, 1, 2, 3],
+        &[0, 1, 2, 3, 9],
         &[0, 5],
         &[0, 1],
         &[0, 1, 6],
@@ -73,7 +73,8 @@ caught! {
     write_bd: WholeR4;
     write_7f: MappedAt10;
     page_read: HighByteOfBits, LengthLast;
-    page_write: WholePixel, NoMirrors, PauseEndedByStart, PauseRestartedByDisable;
+    page_write: WholePixel, NoMirrors, OneKindOfNothing, PauseEndedByStart,
+        PauseRestartedByDisable;
     acknowledge: LowestFirst, AlwaysCleared;
     step: SteppedThoughRefused, RasterInAdjust, SplitLateInAdjust, SplitOnFirstLine,
         AdvanceByRcAlone, RepeatKTimes, OuterCountKept, EightRegisters, HighestChannelFirst,

@@ -29,3 +29,6 @@ pub const NOT_LISTING: u8 = 7;
 /// The buffer has no room for all of the text or of the words: printing a
 /// listing, and reading one.
 pub const TOO_SMALL: u8 = 8;
+
+/// A converter is there, 6808h to 680Fh, which can only be read: page write.
+pub const CONVERTER_THERE: u8 = 9;

@@ -64,8 +64,8 @@ impl Chip {
         (read.answer, read.byte)
     }
 
-    /// Writes the register page; a pixel goes into the store. Answers 0, 1, 2
-    /// or 3.
+    /// Writes the register page; a pixel goes into the store. Answers 0, 1, 2,
+    /// 3 or 9.
     pub fn page_write(&mut self, store: &mut [u8], address: u16, byte: u8) -> u8 {
         self.answered(unsafe {
             ffi::plus_page_write(*self, store.as_mut_ptr(), store.len(), address, byte)

@@ -124,6 +124,7 @@ impl Model {
                 self.write_video(address, value);
                 true
             }
+            0x6808..=0x680F => return answer::CONVERTER_THERE,
             0x6C00..=0x6C0F => self.write_sound(address - 0x6C00, value),
             _ => false,
         };

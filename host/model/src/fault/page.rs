@@ -43,6 +43,18 @@ impl Fault for NoMirrors {
     }
 }
 
+/// A converter is refused as an address with no register is.
+pub struct OneKindOfNothing;
+
+impl Fault for OneKindOfNothing {
+    fn page_write(chip: &mut Chip, store: &mut [u8], address: u16, byte: u8) -> u8 {
+        match chip.page_write(store, address, byte) {
+            answer::CONVERTER_THERE => answer::NOTHING_THERE,
+            answer => answer,
+        }
+    }
+}
+
 /// A page that isn't mapped is told before a store of another length.
 pub struct LengthLast;
 

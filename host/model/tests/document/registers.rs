@@ -152,7 +152,7 @@ fn converters_read_0<M: Machine>() {
     let mut chip = M::open();
     for address in 0x6808..=0x680F {
         assert_eq!(chip.peek(address, 0x5A), 0);
-        assert_eq!(chip.page_write(&mut [0; STORE], address, 0xFF), 3);
+        assert_eq!(chip.page_write(&mut [0; STORE], address, 0xFF), 9);
         assert_eq!(chip.peek(address, 0x5A), 0);
     }
 }
