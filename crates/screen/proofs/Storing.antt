@@ -1,16 +1,18 @@
--- Values that a loop stores one after the other, and a line's pens stored eight at a time.
+-- Values that a loop stores one or two at a time, and a line's pens stored a character at a time.
 use mathlib.Core.Path.{_≡_, refl, ap, _∙_}
 use mathlib.Core.List.{List}
 use Prim.Native.Nat.{ℕ, zero, suc, _+_, _-_, _*_, _/_, _%_, _<_}
+use native.Mathlib.Nat.{zero-add}
 use native.Mathlib.Omega.{arith}
 use borrow.Author.Count.{below-more}
 use borrow.Author.Tests.{lt-ltb, le-ltb}
-use lib.ListN.{length, getD, set}
+use lib.ListN.{length, getD, set, length-set}
 use lib.Seq.{getD-set-same, getD-set-other}
 use Rattle.picture.specs.Pens.{widthOf, penAt}
 use Rattle.picture.specs.Screen.{characterAt, byteAddress}
 use Rattle.screen.specs.MainLine.{linePen}
-use Rattle.screen.specs.Placing.{listed, eight, characterPen, Placed}
+use Rattle.screen.specs.Placing.{eight, characterPen, Placed}
+use Rattle.words.proofs.Lists.{getD-listed}
 use Rattle.words.proofs.Order.{either-side}
 
 pub placed-none : {f : ℕ → ℕ} {at : ℕ} {l : List ℕ} → Placed f at 0 l l
@@ -29,10 +31,20 @@ placed-more {f} {at} {n} {before} {l} {v} s inside here =
           (getD-set-same l (at + n) v 0 inside ∙ here);
     }
 
-getD-listed : (f : ℕ → ℕ) (i n j : ℕ) → j < n → getD (listed f i n) j 0 ≡ f (i + j)
-getD-listed f i zero j h = absurd (omega arith)
-getD-listed f i (suc n) zero h = ap f (omega arith)
-getD-listed f i (suc n) (suc j) h = getD-listed f (suc i) n j (omega arith) ∙ ap f (omega arith)
+-- two values more
+pub two-more :
+    {f : ℕ → ℕ} {at : ℕ} (i : ℕ) {before l : List ℕ} {v w : ℕ} → Placed f at (2 * i) before l → at + 2 * i + 1 < length l → v ≡ f (2 * i) →
+    w ≡ f (2 * i + 1) → Placed f at (2 * (i + 1)) before (set (set l (at + 2 * i) v) (at + 2 * i + 1) w)
+two-more {f} {at} i {before} {l} {v} {w} s room one two =
+    let n : 2 * i + 1 + 1 ≡ 2 * (i + 1) = omega arith in
+    let p : at + (2 * i + 1) ≡ at + 2 * i + 1 = omega arith in
+    rw (n, p) at (placed-more (placed-more s (omega arith) one) (simp length-set (omega arith)) two)
+
+-- and at the front
+pub front-two-more :
+    {f : ℕ → ℕ} (i : ℕ) {before l : List ℕ} {v w : ℕ} → Placed f 0 (2 * i) before l → 2 * i + 1 < length l → v ≡ f (2 * i) → w ≡ f (2 * i + 1) →
+    Placed f 0 (2 * (i + 1)) before (set (set l (2 * i) v) (2 * i + 1) w)
+front-two-more i s room one two = rw (zero-add (2 * i)) at (two-more i s (omega arith) one two)
 
 pub one-of-eight : (f : ℕ → ℕ) {l : List ℕ} {j : ℕ} → l ≡ eight f → j < 8 → getD l j 0 ≡ f j
 one-of-eight f {l} {j} are h = rw are (getD-listed f 0 8 j h ∙ ap f (omega arith))
@@ -63,7 +75,7 @@ placed-both width left right {at} {l} {l′} {l″} first second =
     }
 
 -- the second of a character's bytes lies one above the first
-above : (a row : ℕ) → byteAddress a row 0 + 1 ≡ byteAddress a row 1
+pub above : (a row : ℕ) → byteAddress a row 0 + 1 ≡ byteAddress a row 1
 unfolding byteAddress
 above a row = omega arith
 

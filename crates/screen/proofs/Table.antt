@@ -62,12 +62,9 @@ tabled w {t} long all =
           rw (byte-of (8 / w) b q hq, pen-of (8 / w) b q hq) at same;
     }
 
--- the widths of modes 1 and 0
+-- the width of mode 1
 pub width-2 : PenWidth 2
 width-2 = record { some = omega arith; few = omega arith; each = λ j h. omega arith }
-
-pub width-4 : PenWidth 4
-width-4 = record { some = omega arith; few = omega arith; each = λ j h. omega arith }
 
 -- the pen at a character's position j stands in the table
 module _ {w : ℕ} (width : PenWidth w) {b : ℕ} (j : ℕ) (byte : b < 256) where

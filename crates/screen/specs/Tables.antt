@@ -1,4 +1,4 @@
--- 01, "Drawing the current line": the tables of pens.
+-- 01, "Drawing the current line", with 02, L4: a table of pens, which mode 1 has.
 use mathlib.Core.Path.{_≡_}
 use mathlib.Core.List.{List}
 use Prim.Native.Nat.{ℕ, _+_, _*_, _/_, _<_}

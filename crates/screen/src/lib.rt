@@ -2,13 +2,14 @@
 mod pens;
 
 ghost use mathlib.Core.Path.{_≡_};
-ghost use Prim.Native.Nat.{_*_, _/_, _<_, _≤_};
+ghost use mathlib.Core.Logic.{_≢_};
+ghost use Prim.Native.Nat.{_+_, _*_, _/_, _<_, _≤_};
 ghost use lib.ListN.{length};
-ghost use Rattle.picture.specs.Pens.{widthOf, penAt};
+ghost use Rattle.picture.specs.Pens.{widthOf, pen, penAt};
 ghost use Rattle.picture.specs.Screen.{characterAt, byteAddress};
 ghost use Rattle.screen.specs.Tables.{Table};
 ghost use Rattle.screen.specs.MainLine.{LinePens};
-ghost use Rattle.screen.specs.Placing.{eight, PenWidth, halfAt, characterPen, Placed};
+ghost use Rattle.screen.specs.Placing.{eight, PenWidth, halfAt, characterPen, pairPen, doubled, Placed, LineBytes};
 
 // Of a character's two bytes the one at one of its 16 positions.
 fn half(left: u8, right: u8, j: usize) -> u8
@@ -63,27 +64,17 @@ fn put_bits(pens: &mut [u8], at: usize, byte: u8)
     }
 }
 
-// A character's pens in any mode but 3, with the tables of modes 1 and 0.
-fn put(
-    pens: &mut [u8],
-    at: usize,
-    mode: u8,
-    four: &[u8; 1024],
-    two: &[u8; 512],
-    left: u8,
-    right: u8,
-)
-    requires { ⌜ (length (now pens) ≡ 656) × (at ≤ 640) × Table 2 (now four) × Table 4 (now two) ⌝ }
+// A character's pens in mode 1, by its table, or in mode 2.
+fn put(pens: &mut [u8], at: usize, mode: u8, table: &[u8; 1024], left: u8, right: u8)
+    requires { ⌜ (length (now pens) ≡ 656) × (at ≤ 640) × Table 2 (now table) × (mode ≢ 0) ⌝ }
     ensures { λ r. ⌜ Placed (characterPen (widthOf mode) left right) at 16 (now (pens .entry)) (now (pens .exit)) ⌝ }
 {
-    match mode {
-        0 => put_pens(pens, at, two, left, right, 4),
-        1 => put_pens(pens, at, four, left, right, 2),
-        _ => {
-            put_bits(pens, at, left);
-            put_bits(pens, at + 8, right);
-        }
+    if mode == 1 {
+        put_pens(pens, at, table, left, right, 2);
+        return;
     }
+    put_bits(pens, at, left);
+    put_bits(pens, at + 8, right);
 }
 
 // Where the first of a character's two bytes lies, by the screen address and the line in the row.
@@ -95,20 +86,92 @@ fn character_byte(address: u16, row: u8, c: usize) -> usize
     a / 4096 * 16384 + row as usize * 2048 + a % 1024 * 2
 }
 
-// The pens at a line's 640 positions, counted from where the scroll starts, after 16 of pen 0.
-pub fn line_pens(ram: &[u8], mode: u8, address: u16, row: u8) -> [u8; 656]
+// A line's pens in mode 1 or 2, a character after the other.
+fn character_pens(ram: &[u8], mode: u8, address: u16, row: u8) -> [u8; 656]
+    requires { ⌜ mode ≢ 0 ⌝ }
     ensures { λ r. ⌜ LinePens (now (ram .entry)) mode address row r ⌝ }
 {
-    let four = pens::mode_1_table();
-    let two = pens::mode_0_table();
+    let table = pens::mode_1_table();
     let mut line = [0u8; 656];
     let mut c = 0;
     while c < 40 {
         let at = character_byte(address, row, c);
         let left = words::byte_at(ram, at);
         let right = words::byte_at(ram, at + 1);
-        put(&mut line, 16 + c * 16, mode, &four, &two, left, right);
+        put(&mut line, 16 + c * 16, mode, &table, left, right);
         c += 1;
     }
     line
+}
+
+// A line's 80 screen bytes.
+fn line_bytes(ram: &[u8], address: u16, row: u8) -> [u8; 80]
+    ensures { λ r. ⌜ LineBytes (now (ram .entry)) address row r ⌝ }
+{
+    let mut bytes = [0u8; 80];
+    let mut c = 0;
+    while c < 40 {
+        let at = character_byte(address, row, c);
+        bytes[2 * c] = words::byte_at(ram, at);
+        bytes[2 * c + 1] = words::byte_at(ram, at + 1);
+        c += 1;
+    }
+    bytes
+}
+
+// The first pen of a byte in mode 0: bits 7, 3, 5 and 1.
+fn first_pen(byte: u8) -> u8
+    ensures { λ r. ⌜ r ≡ pen 4 byte 0 ⌝ }
+{
+    byte / 128 % 2 + 2 * (byte / 8 % 2 + 2 * (byte / 32 % 2 + 2 * (byte / 2 % 2)))
+}
+
+// The two pens of each byte in mode 0. The second has the bits one lower.
+fn put_pairs(bytes: &[u8], pens: &mut [u8])
+    requires { ⌜ 2 * length (now bytes) ≤ length (now pens) ⌝ }
+    ensures { λ r. ⌜ Placed (pairPen (now (bytes .entry))) 0 (2 * length (now (bytes .entry))) (now (pens .entry)) (now (pens .exit)) ⌝ }
+{
+    let mut i = 0;
+    while i < bytes.len() {
+        pens[2 * i] = first_pen(bytes[i]);
+        pens[2 * i + 1] = first_pen(bytes[i] % 128 * 2);
+        i += 1;
+    }
+}
+
+// Each pen twice.
+fn put_twice(from: &[u8], pens: &mut [u8], at: usize)
+    requires { ⌜ at + 2 * length (now from) ≤ length (now pens) ⌝ }
+    ensures { λ r. ⌜ Placed (doubled (now (from .entry))) at (2 * length (now (from .entry))) (now (pens .entry)) (now (pens .exit)) ⌝ }
+{
+    let mut i = 0;
+    while i < from.len() {
+        pens[at + 2 * i] = from[i];
+        pens[at + 2 * i + 1] = from[i];
+        i += 1;
+    }
+}
+
+// A line's pens in mode 0: two a byte, each four positions wide.
+fn mode_0_pens(ram: &[u8], address: u16, row: u8) -> [u8; 656]
+    ensures { λ r. ⌜ LinePens (now (ram .entry)) 0 address row r ⌝ }
+{
+    let bytes = line_bytes(ram, address, row);
+    let mut pairs = [0u8; 160];
+    let mut twice = [0u8; 320];
+    let mut line = [0u8; 656];
+    put_pairs(&bytes, &mut pairs);
+    put_twice(&pairs, &mut twice, 0);
+    put_twice(&twice, &mut line, 16);
+    line
+}
+
+// The pens at a line's 640 positions, counted from where the scroll starts, after 16 of pen 0.
+pub fn line_pens(ram: &[u8], mode: u8, address: u16, row: u8) -> [u8; 656]
+    ensures { λ r. ⌜ LinePens (now (ram .entry)) mode address row r ⌝ }
+{
+    if mode == 0 {
+        return mode_0_pens(ram, address, row);
+    }
+    character_pens(ram, mode, address, row)
 }

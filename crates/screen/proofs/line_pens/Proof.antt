@@ -1,101 +1,20 @@
--- `screen::line_pens`: before turn c the pens of the characters below c are in place.
+-- `screen::line_pens`: by the mode.
 use borrow.Author.Needs.{needs}
-use native.Mathlib.Omega.{arith}
-use mathlib.Core.Path.{_≡_}
-use Prim.Native.Nat.{_≤_, _-_, _*_}
-use lib.ListN.{length, getD-replicate}
-use Rattle.screen.specs.Tables.{Table}
-use Rattle.screen.proofs.Storing.{PensBelow, character-more}
 use Rattle.screen.proofs.line_pens.Statement.{statement}
 use Rattle.screen.proofs.line_pens.Tie as tie
 
-abbrev Inv-loop : tie.InvT-loop
-Inv-loop ram mode address row four two line₀ c₀ line c = (c ≤ 40) × (length line ≡ 656) × Table 2 four × Table 4 two × PensBelow ram mode address row (c * 16) line
+mode-0-pens-requires : tie.Need-mode-0-pens-requires
+mode-0-pens-requires c κs = search needs
 
-abbrev μ-loop : tie.MeasureT-loop
-μ-loop ram mode address row four two line₀ c₀ line c = 40 - c
+returns : tie.Need-returns
+returns c = rw (c .before .if1 .taken) (c .mode-0-pens .ensures)
 
-mode-1-table-requires : tie.Need-mode-1-table-requires Inv-loop μ-loop
-mode-1-table-requires c κs = search needs
+character-pens-requires : tie.Need-character-pens-requires
+character-pens-requires c κs = search needs
 
-mode-0-table-requires : tie.Need-mode-0-table-requires Inv-loop μ-loop
-mode-0-table-requires c κs = search needs
-
-loop-holds : tie.Need-loop-holds Inv-loop μ-loop
-loop-holds c = (
-  search needs,
-  search needs,
-  c .before .mode-1-table .ensures,
-  c .mode-0-table .ensures,
-  record { lead = λ p h. getD-replicate 656 p 0 0 (omega arith); pen = λ p h. absurd (omega arith) },
-)
-
-character-byte-requires : tie.Need-character-byte-requires Inv-loop μ-loop
-character-byte-requires c κs = search needs
-
-byte-at-requires : tie.Need-byte-at-requires Inv-loop μ-loop
-byte-at-requires c κs = search needs
-
-add-byte-at : tie.Need-add-byte-at Inv-loop μ-loop
-add-byte-at c = search needs
-
-byte-at-requires-2 : tie.Need-byte-at-requires-2 Inv-loop μ-loop
-byte-at-requires-2 c κs = search needs
-
-slice-aggregate-put : tie.Need-slice-aggregate-put Inv-loop μ-loop
-slice-aggregate-put c = search needs
-
-mul-put : tie.Need-mul-put Inv-loop μ-loop
-mul-put c = search needs
-
-add-put : tie.Need-add-put Inv-loop μ-loop
-add-put c = search needs
-
-put-requires : tie.Need-put-requires Inv-loop μ-loop
-put-requires c κs = search needs
-
-add-c : tie.Need-add-c Inv-loop μ-loop
-add-c c = search needs
-
-loop-less : tie.Need-loop-less Inv-loop μ-loop
-loop-less c = search needs
-
-loop-again : tie.Need-loop-again Inv-loop μ-loop
-loop-again c =
-    let p = c .before in
-    let b = p .before .before .before .before in
-    let l = b .before .before .before .before .loop in
-    let at = b .before .before .character-byte .ensures .0 in (
-      search needs,
-      search needs,
-      l .inv .2,
-      l .inv .3,
-      character-more _ _ _ _ _ (l .inv .4) at (b .before .byte-at .ensures) (b .byte-at2 .ensures) (p .put .ensures),
-    )
-
-returns : tie.Need-returns Inv-loop μ-loop
-returns c = let last : c .before .loop .c ≡ 40 = omega arith in
-    let pens = rw last at (c .before .loop .inv .4) in
-    record { size = c .before .loop .inv .1; lead = pens .lead; pen = pens .pen }
+returns-2 : tie.Need-returns-2
+returns-2 c = search needs
 
 pub line-pens-spec : {M : Type 1} → statement M
 line-pens-spec =
-    tie.close
-    (tie.spec
-    Inv-loop
-    μ-loop
-    mode-1-table-requires
-    mode-0-table-requires
-    loop-holds
-    character-byte-requires
-    byte-at-requires
-    add-byte-at
-    byte-at-requires-2
-    slice-aggregate-put
-    mul-put
-    add-put
-    put-requires
-    add-c
-    loop-less
-    loop-again
-    returns)
+    tie.close (tie.spec mode-0-pens-requires returns character-pens-requires returns-2)
