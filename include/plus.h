@@ -6,8 +6,13 @@
  * the structs are served, but a bool must be 0 or 1.
  *
  * A buffer is a pointer, never NULL, and its length: PLUS_RAM bytes for RAM, PLUS_STORE for the sprite pixel store, PLUS_LINE for
- * a drawn line. A text has any number of bytes, and the length of sound words is counted in words. The buffers of one call must
- * not overlap. */
+ * a drawn line, PLUS_EXPORT for an export. A text has any number of bytes, and the length of sound words is counted in words. The
+ * buffers of one call must not overlap.
+ *
+ * The page writes that can be undone stand in PLUS_PLACES numbers, which a host keeps beside the chip: it lends the same ones,
+ * as the last call left them, to every page write and undo of that chip. They need not be set at first, nor after a reset. The
+ * newest is at place editing.undo.next - 1 (255 where that is 0), the one before it at the place before, and so on round, as
+ * many as editing.undo.count says; each is the address written to, times 256, plus the register's contents before. */
 #ifndef PLUS_H
 #define PLUS_H
 
@@ -19,23 +24,24 @@
 extern "C" {
 #endif
 
-enum { PLUS_RAM = 65536, PLUS_STORE = 4096, PLUS_LINE = 640 };
+enum { PLUS_RAM = 65536, PLUS_STORE = 4096, PLUS_LINE = 640, PLUS_EXPORT = 477, PLUS_PLACES = 256 };
 
 /* The most bytes that a word's line of text has, its LF with them: `LOOP+INT+STOP`. */
 enum { PLUS_LONGEST_LINE = 14 };
 
 /* The numbers a call can answer. The lowest that applies is given. */
 enum {
-    PLUS_DONE = 0,           /* done */
-    PLUS_WRONG_LENGTH = 1,   /* a buffer has another length than its call wants */
-    PLUS_NOT_MAPPED = 2,     /* the page is not mapped, or the address is not in it (4000h to 7FFFh) */
-    PLUS_NOTHING_THERE = 3,  /* no register there that could be written */
-    PLUS_MODE_THREE = 4,     /* a line in screen mode 3 can't be drawn */
-    PLUS_NO_INTERRUPT = 5,   /* nothing to acknowledge */
-    PLUS_NO_STOP = 6,        /* the list has no STOP up to the end of RAM */
-    PLUS_NOT_LISTING = 7,    /* a line of the text is no word's */
-    PLUS_TOO_SMALL = 8,      /* the buffer has no room for all of the text, or of the words */
-    PLUS_CONVERTER_THERE = 9 /* an analogue converter (6808h to 680Fh), which can only be read */
+    PLUS_DONE = 0,            /* done */
+    PLUS_WRONG_LENGTH = 1,    /* a buffer has another length than its call wants */
+    PLUS_NOT_MAPPED = 2,      /* the page is not mapped, or the address is not in it (4000h to 7FFFh) */
+    PLUS_NOTHING_THERE = 3,   /* no register there that could be written */
+    PLUS_MODE_THREE = 4,      /* a line in screen mode 3 can't be drawn */
+    PLUS_NO_INTERRUPT = 5,    /* nothing to acknowledge */
+    PLUS_NO_STOP = 6,         /* the list has no STOP up to the end of RAM */
+    PLUS_NOT_LISTING = 7,     /* a line of the text is no word's */
+    PLUS_TOO_SMALL = 8,       /* the buffer has no room for all of the text, or of the words */
+    PLUS_CONVERTER_THERE = 9, /* an analogue converter (6808h to 680Fh), which can only be read */
+    PLUS_NOTHING_TO_UNDO = 10 /* no page write is left that could be undone */
 };
 
 /* What a channel did on a line. */
@@ -109,6 +115,15 @@ typedef struct {
 } PlusInterrupts;
 
 typedef struct {
+    uint8_t next;   /* the place that the next page write goes to */
+    uint16_t count; /* how many can be undone, 0 to PLUS_PLACES */
+} PlusUndo;
+
+typedef struct {
+    PlusUndo undo;
+} PlusEditing;
+
+typedef struct {
     PlusLock lock;
     PlusGate gate;
     PlusCrtc crtc;
@@ -117,6 +132,7 @@ typedef struct {
     uint8_t palette[64]; /* two bytes an entry, low then high */
     PlusSound sound;
     PlusInterrupts interrupts;
+    PlusEditing editing;
 } PlusChip;
 
 /* The answers. */
@@ -165,7 +181,7 @@ typedef struct {
 
 /* The calls. */
 
-/* The chip after reset. No answer number: nothing can refuse it. */
+/* The chip after reset, with nothing to undo. No answer number: nothing can refuse it. */
 PlusChip plus_reset(void);
 
 /* A byte to port BCxx: selects a 6845 register and feeds the lock. Answers 0. */
@@ -180,8 +196,18 @@ PlusAnswered plus_write_7f(PlusChip chip, uint8_t byte);
 /* Reads the register page; `bus` comes back where nothing can be read. Answers 0, 1 or 2. */
 PlusByteRead plus_page_read(PlusChip chip, const uint8_t *store, size_t store_length, uint16_t address, uint8_t bus);
 
-/* Writes the register page; a pixel goes into the store. Answers 0, 1, 2, 3 or 9. */
-PlusAnswered plus_page_write(PlusChip chip, uint8_t *store, size_t store_length, uint16_t address, uint8_t byte);
+/* Writes the register page; a pixel goes into the store. A write that is served, but to DCSR, can be undone; of more than
+ * PLUS_PLACES the oldest can't be any more. Answers 0, 1, 2, 3 or 9. */
+PlusAnswered plus_page_write(PlusChip chip, uint8_t *store, size_t store_length, uint32_t places[PLUS_PLACES], uint16_t address,
+                             uint8_t byte);
+
+/* Takes back the newest page write that is left: its register, or the pixel in the store, gets the contents it had before. Served
+ * whether or not the page is mapped. Answers 0, 1 or 10. */
+PlusAnswered plus_undo(PlusChip chip, uint8_t *store, size_t store_length, const uint32_t places[PLUS_PLACES]);
+
+/* Exports the registers of the page: for each of 159, by rising address, its address low, its address high and its contents. The
+ * pixels, DCSR and the mirrors of magnification are not among them. Answers 0 or 1. */
+uint8_t plus_export(PlusChip chip, uint8_t *out, size_t out_length);
 
 /* Serves the waiting interrupt that comes first and gives its vector. Answers 0 or 5. */
 PlusAcknowledged plus_acknowledge(PlusChip chip);

@@ -1,5 +1,5 @@
 /* Reads a sound list from text and prints it, forecasts it, then plays it on channel 0 up to its STOP and counts the same two
- * numbers. */
+ * numbers. A slip on the way is undone. */
 #include <stdio.h>
 #include <stdlib.h>
 #include <string.h>
@@ -11,6 +11,7 @@ static const uint8_t unlock[] = {0x01, 0x00, 0xFF, 0x77, 0xB3, 0x51, 0xA8, 0xD4,
 static const char song[] = "LOAD 7 38\nPAUSE 2\nSTOP\n";
 
 static uint8_t ram[PLUS_RAM], store[PLUS_STORE];
+static uint32_t places[PLUS_PLACES]; /* the page writes that can be undone */
 
 /* Ends the program at a refusal. */
 static void served(const char *call, uint8_t answer) {
@@ -21,7 +22,7 @@ static void served(const char *call, uint8_t answer) {
 }
 
 static PlusChip poke(PlusChip chip, uint16_t address, uint8_t byte) {
-    PlusAnswered written = plus_page_write(chip, store, sizeof store, address, byte);
+    PlusAnswered written = plus_page_write(chip, store, sizeof store, places, address, byte);
     served("page write", written.answer);
     return written.chip;
 }
@@ -42,6 +43,12 @@ static void put_list(const char *listing, uint16_t start) {
     fwrite(text, 1, printed.size, stdout);
 }
 
+static PlusChip undo(PlusChip chip) {
+    PlusAnswered undone = plus_undo(chip, store, sizeof store, places);
+    served("undo", undone.answer);
+    return undone.chip;
+}
+
 int main(void) {
     put_list(song, 0x8000);
     PlusLength told = plus_forecast(ram, sizeof ram, 0x8000, 0);
@@ -56,6 +63,7 @@ int main(void) {
     chip = poke(chip, 0x6C00, 0x00);       /* start address low, high, prescale, enable */
     chip = poke(chip, 0x6C01, 0x80);
     chip = poke(chip, 0x6C02, 0);
+    chip = undo(poke(chip, 0x6C02, 5)); /* another prescale would make the pause longer */
     chip = poke(chip, 0x6C0F, 0x01);
 
     unsigned long lines = 0, cycles = 0;

@@ -1,4 +1,4 @@
-"""The chip of document 01, written from that document alone, for the expected output of plus_run and `plus run`.
+"""The chip of documents 01 and 02, written from these alone, for the expected output of plus_run and `plus run`.
 
 A Chip is played by play(ram, store, records); it answers the lines that the program should print."""
 
@@ -29,6 +29,7 @@ class Chip:
         self.channels = [Channel() for _ in range(3)]
         self.psg = [0] * 16
         self.raster = self.last_raster = False
+        self.record = []
 
     # lock and ports
     def bc(self, byte):
@@ -64,9 +65,18 @@ class Chip:
     def write(self, store, a, byte):
         if not 0x4000 <= a < 0x8000 or not self.mapped:
             return 2
+        before = self.contents(store, a)
+        if before is None and a != 0x6C0F:
+            return 9 if 0x6808 <= a < 0x6810 else 3
+        if before is not None:
+            self.record = (self.record + [(a, before)])[-256:]
+        self.put(store, a, byte & 15 if a < 0x5000 else byte)
+        return 0
+
+    def put(self, store, a, byte):
         if a < 0x5000:
-            store[a - 0x4000] = byte & 15
-        elif 0x6000 <= a < 0x6080:
+            store[a - 0x4000] = byte
+        elif a < 0x6080:
             s, place = self.sprites[(a - 0x6000) // 8], a % 8
             if place == 0:
                 s[0] = s[0] & 0x300 | byte
@@ -77,14 +87,14 @@ class Chip:
             elif place == 3:
                 s[1] = s[1] & 0xFF | (byte & 1) << 8
             else:
-                s[2] = byte
-        elif 0x6400 <= a < 0x6440:
+                s[2] = byte & 15
+        elif a < 0x6440:
             self.palette[a - 0x6400] = byte & 15 if a % 2 else byte
-        elif 0x6800 <= a <= 0x6804:
+        elif a <= 0x6804:
             self.video[a - 0x6800] = byte & 63 if a == 0x6802 else byte
         elif a == 0x6805:
             self.ivr = byte
-        elif 0x6C00 <= a < 0x6C0C and a % 4 < 3:
+        elif a < 0x6C0C:
             c, place = self.channels[(a - 0x6C00) // 4], a % 4
             if place == 0:
                 c.address = c.address & 0xFF00 | byte & 0xFE
@@ -92,14 +102,43 @@ class Chip:
                 c.address = c.address & 0xFF | byte << 8
             else:
                 c.prescale = byte
-        elif a == 0x6C0F:
+        else:
             for n in range(3):
                 self.channels[n].enabled = bool(byte >> n & 1)
                 if byte >> 6 - n & 1:
                     self.channels[n].interrupt = False
-        else:
-            return 9 if 0x6808 <= a < 0x6810 else 3
+
+    # what a register holds, or None where no write can be undone
+    def contents(self, store, a):
+        if 0x4000 <= a < 0x5000:
+            return store[a - 0x4000]
+        if 0x6000 <= a < 0x6080:
+            x, y, magnification = self.sprites[(a - 0x6000) // 8]
+            return (x & 255, x >> 8, y & 255, y >> 8)[a % 8] if a % 8 < 4 else magnification
+        if 0x6400 <= a < 0x6440:
+            return self.palette[a - 0x6400]
+        if 0x6800 <= a <= 0x6804:
+            return self.video[a - 0x6800]
+        if a == 0x6805:
+            return self.ivr
+        if 0x6C00 <= a < 0x6C0C and a % 4 < 3:
+            c = self.channels[(a - 0x6C00) // 4]
+            return (c.address & 0xFE, c.address >> 8, c.prescale)[a % 4]
+        return None
+
+    def undo(self, store):
+        if not self.record:
+            return 10
+        self.put(store, *self.record.pop())
         return 0
+
+    def export(self):
+        out = []
+        for a in range(0x6000, 0x6C10):
+            held = self.contents(None, a)
+            if held is not None and not (a < 0x6080 and a % 8 > 4):
+                out += [a & 255, a >> 8, held]
+        return '0 ' + bytes(out).hex()
 
     def dcsr(self):
         value = 128 if self.last_raster else 0
@@ -303,6 +342,10 @@ def play(ram, store, records, drawing=True):
             out.append('%d' % chip.write(store, a, value))
         elif op == ord('R'):
             out.append('%d %d' % chip.read(store, a, value))
+        elif op == ord('U'):
+            out.append('%d' % chip.undo(store))
+        elif op == ord('E'):
+            out.append(chip.export())
         elif op == ord('A'):
             out.append('%d %d' % chip.acknowledge())
         elif op == ord('L'):

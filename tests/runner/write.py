@@ -1,6 +1,6 @@
 """Writes the pairs beside this file, and the stored run of the crate plus_run.
 
-The lines of the stored run stand here by hand, from document 01; the model has to agree with them.
+The lines of the stored run stand here by hand, from documents 01 and 02; the model has to agree with them.
 `write.py drawing` writes it for a program that draws."""
 import os
 import random
@@ -32,6 +32,17 @@ def drawn(text):
     return text if DRAWING else 'bad'
 
 
+# the addresses of an export, rising
+EXPORTED = [0x6000 + 8 * n + place for n in range(16) for place in range(5)] + [0x6400 + place for place in range(64)] \
+    + [0x6800 + place for place in range(6)] + [0x6C00 + 4 * n + place for n in range(3) for place in range(3)]
+
+
+def exported(held):
+    """The line of an export in which these registers hold these bytes, and the others 0."""
+    assert set(held) <= set(EXPORTED)
+    return '0 ' + ''.join('%02x%02x%02x' % (a & 255, a >> 8, held.get(a, 0)) for a in EXPORTED)
+
+
 LISTS = {0x8000: [0x0738, 0x1002, 0x4020], 0x9000: [0x2005, 0x4031], 0xA002: [0x3123]}
 # the record and the line that answers it
 STORED = [
@@ -41,6 +52,7 @@ STORED = [
     (rec('R', 0x6000, 0x12), '2 0'), (rec('W', 0x6000, 1), '2'),
     (rec('G', 0, 0xB8), '0'), (rec('R', 0x6000, 0x12), '2 0'),
     (rec('G', 0, 0x40), '3'), (rec('D', 0, 1), '3'), (rec('A'), '5 0'),
+    (rec('U', 0x6000, 7), '10'), (rec('E', 0x6000, 7), exported({0x6805: 1})),
     # unlocked and mapped
 ] + [(rec('B', 0, byte), '0') for byte in UNLOCK] + [
     (rec('D', 0, 40), '0'), (rec('G', 0, 0xB8), '0'),
@@ -73,9 +85,17 @@ STORED = [
     (rec('M', 0x2800, 0x80), '0'), (rec('M', 0x2801, 0x0F), '0'), (rec('M', 0x284F, 0x11), '0'),
     (rec('P'), drawn('0 11' + '0' * 6 + '2' * 8 + '0' * (640 - 18) + '33')),
     (rec('G', 0, 0x83), '0'), (rec('P'), drawn('4')),
+    # the last write, A0h to 6C09h where 80h was: channel 2 has gone on from A002h to A004h, and now is at 8004h
+    (rec('U'), '0'),
+    (rec('E'), exported({0x6001: 3, 0x6004: 1, 0x6800: 1, 0x6805: 0xA8, 0x6C00: 0x02, 0x6C01: 0x90, 0x6C04: 0x04, 0x6C05: 0x80,
+                         0x6C08: 0x04, 0x6C09: 0x80})),
+    (rec('L'), '0 5 - control 32 control 32'),
+    # the writes before it, with the page mapped out: 80h to 6C09h and to 6C05h, where 0 was
+    (rec('G', 0, 0xA0), '0'), (rec('U'), '0'), (rec('U'), '0'), (rec('R', 0x6000, 0), '2 0'),
+    (rec('E'), exported({0x6001: 3, 0x6004: 1, 0x6800: 1, 0x6805: 0xA8, 0x6C00: 0x02, 0x6C01: 0x90, 0x6C04: 0x06, 0x6C08: 0x06})),
     # no call, and reset
-    (rec('x', 0x1234, 5), 'bad'), (rec('b', 0, 9), 'bad'), (rec('\0'), 'bad'),
-    (rec('Z'), '0'), (rec('R', 0x4000, 0x12), '2 0'), (rec('L'), '0 1 - - -'),
+    (rec('x', 0x1234, 5), 'bad'), (rec('b', 0, 9), 'bad'), (rec('\0'), 'bad'), (rec('u'), 'bad'), (rec('e'), 'bad'),
+    (rec('Z'), '0'), (rec('R', 0x4000, 0x12), '2 0'), (rec('L'), '0 1 - - -'), (rec('U'), '10'),
     (b'L\0\0', 'short'),
 ]
 
@@ -92,13 +112,14 @@ def stored():
 
 
 def mixed(seed, count):
-    """RAM, store and records of all calls but drawing, over RAM full of words with many a STOP."""
+    """RAM, store and records of all calls but drawing, over RAM full of words with many a STOP. Now and then there are more writes in a
+    row than can be undone."""
     r = random.Random(seed)
     words = [r.choice([r.randrange(4096), 0x1000 + r.randrange(4), 0x2000 + r.randrange(4), 0x4001, 0x3000, 0x4010,
                        0x5000 + r.randrange(4096), r.choice([0x4001, 0x4020, 0x4030, 0x4031])]) for _ in range(32768)]
     records = b''.join(rec('B', 0, byte) for byte in UNLOCK) + rec('G', 0, 0xB8)
     while len(records) < 4 * count:
-        op = r.choice('BDGWWWRRALLLLLLFM')
+        op = r.choice('BDGWWWRRALLLLLLFMU')
         a, value = r.randrange(65536), r.randrange(256)
         if op == 'B':
             value = r.choice([1, 4, 5, 6, 9, 12, 13, value])
@@ -112,6 +133,11 @@ def mixed(seed, count):
         if r.randrange(100) == 0:
             n = r.randrange(3)
             records += rec('W', 0x6C02 + 4 * n, r.randrange(3)) + rec('W', 0x6C0F, 7) + rec('W', 0x6800, r.randrange(8))
+        if r.randrange(400) == 0:
+            records += rec('E', a, value)
+        if r.randrange(4000) == 0:
+            records += b''.join(rec('W', r.choice([0x4000, 0x6000, 0x6400, 0x6C00]) + r.randrange(12), r.randrange(256))
+                                for _ in range(400)) + rec('E') + rec('U') * 300 + rec('E')
         if r.randrange(2000) == 0:
             records += rec('Z') + b''.join(rec('B', 0, byte) for byte in UNLOCK) + rec('G', 0, 0xB8)
         records += rec(op, a, value)

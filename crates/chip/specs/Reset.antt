@@ -27,7 +27,7 @@ resetVideo = record { pri = 0; «split_line» = 0; «split_high» = 0; «split_l
 abbrev pub resetSound : Sound
 resetSound = record { channels = replicate 3 offChannel; psg = replicate 16 0 }
 
--- locked, page not mapped, all sprites off, the palette 0, no interrupt waiting, IVR 01h
+-- locked, page not mapped, all sprites off, the palette 0, no interrupt waiting, IVR 01h; nothing to undo
 unfoldable pub resetChip : Chip
 resetChip =
     record {
@@ -39,6 +39,7 @@ resetChip =
       palette = replicate 64 0;
       sound = resetSound;
       interrupts = record { raster = false; «last_raster» = false; ivr = 1 };
+      editing = record { undo = record { next = 0; count = 0 } };
     }
 
 -- what reset promises: the chip, and a lock that has been fed no byte

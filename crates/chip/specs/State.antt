@@ -9,9 +9,11 @@ use Rattle.crtc.specs.declared.Registers.{Registers}
 use Rattle.crtc.specs.declared.Counters.{Counters}
 use Rattle.crtc.specs.declared.Video.{Video}
 use Rattle.picture.specs.declared.sprite.Sprite.{Sprite}
+use Rattle.ring.specs.declared.Undo.{Undo}
 use Rattle.chip.specs.declared.Gate.{Gate}
 use Rattle.chip.specs.declared.Crtc.{Crtc}
 use Rattle.chip.specs.declared.Interrupts.{Interrupts}
+use Rattle.chip.specs.declared.Editing.{Editing}
 use Rattle.chip.specs.declared.Chip.{Chip}
 
 abbrev pub withLock : Chip → Lock → Chip
@@ -25,6 +27,7 @@ withLock c x =
       palette = c .palette;
       sound = c .sound;
       interrupts = c .interrupts;
+      editing = c .editing;
     }
 
 abbrev pub withGate : Chip → Gate → Chip
@@ -38,6 +41,7 @@ withGate c x =
       palette = c .palette;
       sound = c .sound;
       interrupts = c .interrupts;
+      editing = c .editing;
     }
 
 abbrev pub withCrtc : Chip → Crtc → Chip
@@ -51,6 +55,7 @@ withCrtc c x =
       palette = c .palette;
       sound = c .sound;
       interrupts = c .interrupts;
+      editing = c .editing;
     }
 
 abbrev pub withVideo : Chip → Video → Chip
@@ -64,6 +69,7 @@ withVideo c x =
       palette = c .palette;
       sound = c .sound;
       interrupts = c .interrupts;
+      editing = c .editing;
     }
 
 abbrev pub withSprites : Chip → List Sprite → Chip
@@ -77,6 +83,7 @@ withSprites c x =
       palette = c .palette;
       sound = c .sound;
       interrupts = c .interrupts;
+      editing = c .editing;
     }
 
 abbrev pub withPalette : Chip → List ℕ → Chip
@@ -90,6 +97,7 @@ withPalette c x =
       palette = x;
       sound = c .sound;
       interrupts = c .interrupts;
+      editing = c .editing;
     }
 
 abbrev pub withSound : Chip → Sound → Chip
@@ -103,6 +111,7 @@ withSound c x =
       palette = c .palette;
       sound = x;
       interrupts = c .interrupts;
+      editing = c .editing;
     }
 
 abbrev pub withInterrupts : Chip → Interrupts → Chip
@@ -116,7 +125,26 @@ withInterrupts c x =
       palette = c .palette;
       sound = c .sound;
       interrupts = x;
+      editing = c .editing;
     }
+
+abbrev pub withEditing : Chip → Editing → Chip
+withEditing c x =
+    record {
+      lock = c .lock;
+      gate = c .gate;
+      crtc = c .crtc;
+      video = c .video;
+      sprites = c .sprites;
+      palette = c .palette;
+      sound = c .sound;
+      interrupts = c .interrupts;
+      editing = x;
+    }
+
+-- the undo record changed
+abbrev pub withUndo : Chip → Undo → Chip
+withUndo c u = withEditing c (record { undo = u })
 
 -- the three channels changed, the PSG kept
 abbrev pub withChannels : Chip → List Channel → Chip

@@ -4,6 +4,7 @@ use crtc::Registers;
 use crtc::Video;
 use lock::Lock;
 use picture::sprite::Sprite;
+use ring::Undo;
 use sound::Report;
 use sound::Sound;
 
@@ -35,6 +36,12 @@ pub struct Interrupts {
     pub ivr: u8,
 }
 
+// What is kept for those who edit: the record of page writes that can be taken back, whose places are lent.
+#[repr(C)]
+pub struct Editing {
+    pub undo: Undo,
+}
+
 // The whole state. The palette has two bytes an entry, low then high.
 #[repr(C)]
 pub struct Chip {
@@ -46,6 +53,7 @@ pub struct Chip {
     pub palette: [u8; 64],
     pub sound: Sound,
     pub interrupts: Interrupts,
+    pub editing: Editing,
 }
 
 // The answer number of a call, and the chip after it.

@@ -1,6 +1,7 @@
 // Reset.
 use crate::Chip;
 use crate::Crtc;
+use crate::Editing;
 use crate::Gate;
 use crate::Interrupts;
 use crtc::Counters;
@@ -8,6 +9,7 @@ use crtc::Registers;
 use crtc::Video;
 use lock::Lock;
 use picture::sprite::Sprite;
+use ring::Undo;
 use sound::Channel;
 use sound::Sound;
 ghost use mathlib.Core.Path.{_≡_};
@@ -92,6 +94,9 @@ pub fn reset() -> Chip
             raster: false,
             last_raster: false,
             ivr: 1,
+        },
+        editing: Editing {
+            undo: Undo { next: 0, count: 0 },
         },
     }
 }

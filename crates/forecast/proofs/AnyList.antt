@@ -13,7 +13,7 @@ use Rattle.chip.specs.Step.{stepAnswer}
 use Rattle.runs.specs.Ask.{bc, ack, asked, answerTo, chipAfter}
 use Rattle.runs.proofs.Asks.{Made, makes}
 use Rattle.forecast.specs.Demand as demand
-use Rattle.forecast.specs.Demand.{channel, Spares, Lent}
+use Rattle.forecast.specs.Demand.{Spares, Lent}
 use Rattle.forecast.proofs.Spares.{spared}
 use Rattle.forecast.proofs.Exist.{stepOf, line-first, refused-first, full-served, part-refused}
 use Rattle.forecast.proofs.Asked.{Item, call, step, Allowed, RunOf}
@@ -54,7 +54,7 @@ any-list n ram start h (call x ∷ xs) c ok =
       reports = rest .reports;
       run =
           demand.other (answerTo c x) (k .made)
-          (λ z. spared n h (k .made) (let s : Spares n (channel c n) (asked (k .made)) = rw (k .is) (ok .0 z) in s) z) (rest .run);
+          (λ z. spared n h (k .made) (let s : Spares n c (asked (k .made)) = rw (k .is) (ok .0 z) in s) z) (rest .run);
       items = rw (k .is, rest .items);
       lines = rest .lines;
     }

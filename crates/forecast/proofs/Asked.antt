@@ -12,7 +12,7 @@ use Rattle.chip.specs.declared.Chip.{Chip}
 use Rattle.chip.specs.Step.{stepAnswer, stepped}
 use Rattle.runs.specs.Ask.{Ask, asked, answerTo, chipAfter}
 use Rattle.forecast.specs.Demand as demand
-use Rattle.forecast.specs.Demand.{channel, Spares, Lent, Run}
+use Rattle.forecast.specs.Demand.{Spares, Lent, Run}
 
 -- a call, or a line step with the RAM lent to it
 pub data Item : Type 0 where
@@ -31,7 +31,7 @@ itemsOf (demand.line κs lent r l e has f g rest) = step (now lent) ∷ itemsOf 
 abbrev pub Allowed : ℕ → List ℕ → ℕ → Chip → List Item → Type 0
 Allowed n ram start c [] = Unit {0}
 Allowed n ram start c (call x ∷ xs) =
-    (answerTo c x ≡ done → Spares n (channel c n) x) × Allowed n ram start (chipAfter c x) xs
+    (answerTo c x ≡ done → Spares n c x) × Allowed n ram start (chipAfter c x) xs
 Allowed n ram start c (step lent ∷ xs) =
     (stepAnswer lent ≡ done → Lent ram start lent) × Allowed n ram start (served (stepAnswer lent) (stepped lent c) c) xs
 

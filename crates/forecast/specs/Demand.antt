@@ -22,10 +22,13 @@ use Rattle.chip.specs.declared.Stepped.{Stepped}
 use Rattle.chip.specs.Channels.{LeftAlone}
 use Rattle.chip.proofs.line.step.Reads as step
 use Rattle.runs.specs.Call.{Call}
-use Rattle.runs.specs.Ask.{Ask, bc, bd, gate, read, write, ack}
+use Rattle.page.specs.Record.{entryAddress, entryContents}
+use Rattle.page.specs.Undo.{newest}
+use Rattle.runs.specs.Ask.{Ask, bc, bd, gate, read, write, undo, ack}
 use Rattle.forecast.specs.Rule.{even, wordsOf}
 
--- ---- the calls of a run are line steps, and the calls of `Call` in the crate `runs`: port writes, page reads and writes, acknowledges
+-- ---- the calls of a run are line steps, and the calls of `Call` in the crate `runs`: port writes, page reads and writes, undo,
+-- acknowledges
 
 -- channel n of the chip
 abbrev pub channel : Chip → ℕ → Channel
@@ -54,14 +57,15 @@ pub record NotWritten (n : ℕ) (d : Channel) (a b : ℕ) : Type 0 where
   pub prescale : a ≡ 0x6c00 + 4 * n + 2 → ⊥
   pub enable : a ≡ 0x6c0f → d .enabled ≡ true → bit n b ≡ true
 
--- no other call can name the channel
-abbrev pub Spares : ℕ → Channel → Ask → Type 0
-Spares n d (bc b) = Unit {0}
-Spares n d (bd b) = Unit {0}
-Spares n d (gate b) = Unit {0}
-Spares n d (read store a bus) = Unit {0}
-Spares n d (write store a b) = NotWritten n d a b
-Spares n d ack = Unit {0}
+-- an undo counts as a write of what it puts back, to the address of the newest entry; no other call can name the channel
+abbrev pub Spares : ℕ → Chip → Ask → Type 0
+Spares n c (bc b) = Unit {0}
+Spares n c (bd b) = Unit {0}
+Spares n c (gate b) = Unit {0}
+Spares n c (read store a bus) = Unit {0}
+Spares n c (write store a b) = NotWritten n (channel c n) a b
+Spares n c (undo store places) = NotWritten n (channel c n) (entryAddress (newest c places)) (entryContents (newest c places))
+Spares n c ack = Unit {0}
 
 -- ---- the run, for channel n and the list at a start: each call gets the chip that the last one left. What the calls between the lines
 -- must not do is asked by its effect, `LeftAlone`: address and prescale are as before, and an enable that was set still is. A law says

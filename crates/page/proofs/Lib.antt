@@ -1,4 +1,5 @@
--- What the page's proofs share, and laws of the page for the crates above.
+-- What the page's proofs share, and laws of the record and of undo.
 pub mod PageAnswers
-pub mod PageLaws
-pub mod AddressLaws
+pub mod Ways
+pub mod HoldsAt
+pub mod UndoLaws

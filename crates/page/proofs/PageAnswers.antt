@@ -3,7 +3,6 @@ use mathlib.Core.Path.{_≡_, refl}
 use mathlib.Core.Bool.{Bool, true, false}
 use Prim.Native.Nat.{ℕ}
 use native.Mathlib.Omega.{arith}
-use borrow.Author.Tests.{eqb-true}
 use lib.Dec.{eqb, leb, ltb}
 use Rattle.words.specs.Choice.{if, both}
 use Rattle.chip.specs.declared.Chip.{Chip}
@@ -23,10 +22,6 @@ open-to true true rest h = refl
 open-to true false rest h = absurd (omega arith)
 open-to false p rest h = absurd (omega arith)
 
-long : (l p : Bool) (rest : ℕ) → through l p rest ≡ 0 → l ≡ true
-long true p rest h = refl
-long false p rest h = absurd (omega arith)
-
 module _ (c : Chip) (size a rest : ℕ) where
   abbrev inside : Bool
   inside = both (both (leb 0x4000 a) (ltb a 0x8000)) (c .gate .mapped)
@@ -40,12 +35,3 @@ module _ (c : Chip) (size a rest : ℕ) where
   pub rest-decides : readAnswer c size a ≡ 0 → pageAnswer c size a rest ≡ rest
   unfolding pageAnswer readAnswer
   rest-decides h = open-to (eqb size 4096) inside rest h
-
-  -- a served call was lent 4,096 bytes
-  pub read-length : readAnswer c size a ≡ 0 → size ≡ 4096
-  unfolding pageAnswer readAnswer
-  read-length h = eqb-true size 4096 (long (eqb size 4096) inside 0 h)
-
-  pub served-length : pageAnswer c size a rest ≡ 0 → size ≡ 4096
-  unfolding pageAnswer
-  served-length h = eqb-true size 4096 (long (eqb size 4096) inside rest h)

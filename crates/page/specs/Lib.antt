@@ -1,5 +1,6 @@
--- 01, "The register page": what stands at each address, and reads and writes.
-pub mod Address
+-- 01, "The register page", with 02, L5: page reads, page writes and their record, and undo.
+pub mod Record
 pub mod Page
+pub mod Undo
 -- for the code's own parts only, cited by no public promise
-pub mod Flags
+pub mod Parts

@@ -1,49 +1,25 @@
--- 01, "The register page": reads and writes.
+-- 01, "The register page": page reads and writes.
 use mathlib.Core.Path.{_≡_}
-use mathlib.Core.Bool.{Bool, true, false}
-use mathlib.Core.List.{List, [], _∷_}
-use Prim.Native.Nat.{ℕ, _+_, _-_, _*_, _/_, _%_}
+use mathlib.Core.List.{List, _∷_}
+use Prim.Native.Nat.{ℕ, _%_}
 use lib.Dec.{eqb, leb, ltb}
-use lib.ListN.{length, getD, set}
-use Rattle.words.specs.Choice.{if, both, bit}
-use Rattle.sound.specs.declared.Channel.{Channel}
-use Rattle.sound.specs.Channels.{withAddress, withFlags}
-use Rattle.sound.specs.Line.{channelOf}
-use Rattle.crtc.specs.declared.Video.{Video}
-use Rattle.picture.specs.declared.sprite.Sprite.{Sprite}
-use Rattle.picture.specs.Sprites.{offSprite, written, shown}
-use Rattle.picture.specs.Palette.{keptByte}
+use lib.ListN.{length, set, take}
+use Rattle.words.specs.Answers.{done, wrongLength, notMapped, served}
+use Rattle.words.specs.Choice.{if, both}
 use Rattle.chip.specs.declared.Chip.{Chip}
 use Rattle.chip.specs.declared.Answered.{Answered}
-use Rattle.page.specs.declared.ByteRead.{ByteRead}
-use Rattle.page.specs.declared.address.VideoRegister.{VideoRegister}
-use Rattle.page.specs.declared.address.VideoRegister.the-variants.{Pri, SplitLine, SplitHigh, SplitLow, Sscr}
-use Rattle.page.specs.declared.address.ChannelRegister.{ChannelRegister}
-use Rattle.page.specs.declared.address.ChannelRegister.the-variants.{StartLow, StartHigh, Prescale}
-use Rattle.page.specs.declared.address.Register.{Register}
-use Rattle.page.specs.declared.address.Register.the-variants.{Pixel, Sprite as SpriteAt, Palette, Video as VideoAt, Ivr, Converter, Channel as ChannelAt, Dcsr, Status, Empty}
-use Rattle.chip.specs.State.{withVideo, withSprites, withPalette, withChannels, withIvr}
-use Rattle.words.specs.Answers.{done, wrongLength, notMapped, nothingThere, converterThere, served}
 use Rattle.chip.specs.Contracts.{Answers}
-use Rattle.page.specs.Address.{registerAt}
+use Rattle.chip.specs.State.{withUndo}
+use Rattle.registers.specs.declared.address.Register.{Register}
+use Rattle.registers.specs.Address.{registerAt}
+use Rattle.registers.specs.Registers.{registerAnswer, registerWritten, storeWritten, registerRead}
+use Rattle.page.specs.declared.ByteRead.{ByteRead}
+use Rattle.page.specs.Record.{isKept, entryAt, recordIn, undoAfter}
 
 -- the pixel store has 4,096 bytes; the page is 4000h to 7FFFh, while mapped. The rest is as given
 unfoldable pub pageAnswer : Chip → ℕ → ℕ → ℕ → ℕ
 pageAnswer c size a rest =
     if (eqb size 4096) (if (both (both (leb 0x4000 a) (ltb a 0x8000)) (c .gate .mapped)) rest notMapped) wrongLength
-
--- what a write to a register answers: a converter has a number of its own; no register, or one that only shows DCSR, has another
-abbrev pub registerAnswer : Register → ℕ
-registerAnswer (Pixel i) = done
-registerAnswer (SpriteAt n p) = done
-registerAnswer (Palette i) = done
-registerAnswer (VideoAt v) = done
-registerAnswer Ivr = done
-registerAnswer Converter = converterThere
-registerAnswer (ChannelAt n r) = done
-registerAnswer Dcsr = done
-registerAnswer Status = nothingThere
-registerAnswer Empty = nothingThere
 
 unfoldable pub readAnswer : Chip → ℕ → ℕ → ℕ
 readAnswer c size a = pageAnswer c size a done
@@ -51,136 +27,28 @@ readAnswer c size a = pageAnswer c size a done
 unfoldable pub writeAnswer : Chip → ℕ → ℕ → ℕ
 writeAnswer c size a = pageAnswer c size a (registerAnswer (registerAt a))
 
--- sprite n's register at this place gets the byte
-abbrev pub spriteWritten : List Sprite → ℕ → ℕ → ℕ → List Sprite
-spriteWritten sprites n place b = set sprites n (written (getD sprites n offSprite) place b)
+-- the chip after a served write: the register has the byte, and the record the write
+unfoldable pub pageWritten : Chip → Register → ℕ → Chip
+pageWritten c x b = withUndo (registerWritten c x b) (undoAfter (c .editing .undo) x)
 
--- a split address high keeps 6 bits
-abbrev pub videoWritten : Video → VideoRegister → ℕ → Video
-videoWritten v Pri b =
-    record {
-      pri = b;
-      «split_line» = v .«split_line»;
-      «split_high» = v .«split_high»;
-      «split_low» = v .«split_low»;
-      sscr = v .sscr;
-    }
-videoWritten v SplitLine b =
-    record {
-      pri = v .pri;
-      «split_line» = b;
-      «split_high» = v .«split_high»;
-      «split_low» = v .«split_low»;
-      sscr = v .sscr;
-    }
-videoWritten v SplitHigh b =
-    record {
-      pri = v .pri;
-      «split_line» = v .«split_line»;
-      «split_high» = b % 64;
-      «split_low» = v .«split_low»;
-      sscr = v .sscr;
-    }
-videoWritten v SplitLow b =
-    record {
-      pri = v .pri;
-      «split_line» = v .«split_line»;
-      «split_high» = v .«split_high»;
-      «split_low» = b;
-      sscr = v .sscr;
-    }
-videoWritten v Sscr b =
-    record {
-      pri = v .pri;
-      «split_line» = v .«split_line»;
-      «split_high» = v .«split_high»;
-      «split_low» = v .«split_low»;
-      sscr = b;
-    }
+-- the lent places after it: the entry stands where the record says
+unfoldable pub placesAfter : Chip → List ℕ → List ℕ → ℕ → List ℕ
+placesAfter c store places a =
+    if (isKept (registerAt a)) (set places (c .editing .undo .next % 256) (entryAt c store a)) places
 
--- a start address low, of which bit 0 is dropped, and high are the two bytes of the channel's address; the prescale is all 8 bits.
--- Pause, line count, loop counter, mark, enable and interrupt stay
-abbrev pub channelWritten : Channel → ChannelRegister → ℕ → Channel
-channelWritten d StartLow b = withAddress d (d .address / 256 * 256 + b / 2 * 2)
-channelWritten d StartHigh b = withAddress d (b * 256 + d .address % 256)
-channelWritten d Prescale b =
-    record {
-      enabled = d .enabled;
-      interrupt = d .interrupt;
-      address = d .address;
-      prescale = b;
-      pause = d .pause;
-      count = d .count;
-      counter = d .counter;
-      mark = d .mark;
-    }
+-- and the record: one entry more, of which the last 256 are kept
+unfoldable pub recordAfter : Chip → List ℕ → List ℕ → ℕ → List ℕ
+recordAfter c store places a =
+    if (isKept (registerAt a)) (take 256 (entryAt c store a ∷ recordIn c places)) (recordIn c places)
 
-abbrev pub channelsWritten : List Channel → ℕ → ChannelRegister → ℕ → List Channel
-channelsWritten cs n r b = set cs n (channelWritten (channelOf cs n) r b)
-
--- a DCSR write sets channel n's enable from bit n, and a 1 in bit 6 - n clears its interrupt
-abbrev pub controlWritten : ℕ → ℕ → Channel → Channel
-controlWritten b n d = withFlags d (bit n b) (if (bit (6 - n) b) false (d .interrupt))
-
-abbrev pub dcsrWritten : List Channel → ℕ → List Channel
-dcsrWritten cs b =
-    controlWritten b 0 (channelOf cs 0) ∷ controlWritten b 1 (channelOf cs 1) ∷ controlWritten b 2 (channelOf cs 2) ∷ []
-
--- the chip after a byte is written to a register; pixels are in the store and not in the chip
-abbrev pub registerWritten : Chip → Register → ℕ → Chip
-registerWritten c (Pixel i) b = c
-registerWritten c (SpriteAt n p) b = withSprites c (spriteWritten (c .sprites) n p b)
-registerWritten c (Palette i) b = withPalette c (set (c .palette) i (keptByte i b))
-registerWritten c (VideoAt v) b = withVideo c (videoWritten (c .video) v b)
-registerWritten c Ivr b = withIvr c b
-registerWritten c Converter b = c
-registerWritten c (ChannelAt n r) b = withChannels c (channelsWritten (c .sound .channels) n r b)
-registerWritten c Dcsr b = withChannels c (dcsrWritten (c .sound .channels) b)
-registerWritten c Status b = c
-registerWritten c Empty b = c
-
--- the store after it: of a pixel only the low 4 bits are stored
-abbrev pub storeWritten : List ℕ → Register → ℕ → List ℕ
-storeWritten store (Pixel i) b = set store i (b % 16)
-storeWritten store (SpriteAt n p) b = store
-storeWritten store (Palette i) b = store
-storeWritten store (VideoAt v) b = store
-storeWritten store Ivr b = store
-storeWritten store Converter b = store
-storeWritten store (ChannelAt n r) b = store
-storeWritten store Dcsr b = store
-storeWritten store Status b = store
-storeWritten store Empty b = store
-
--- what a page write promises
-pub record Writes (c : Chip) (store : List ℕ) (a b : ℕ) (after : List ℕ) (r : Answered) : Type 0 where
-  pub call : Answers (writeAnswer c (length store) a) (registerWritten c (registerAt a) b) c r
-  pub store-after : after ≡ served (writeAnswer c (length store) a) (storeWritten store (registerAt a) b) store
-
--- a weight if the test holds, else 0
-abbrev pub flag : Bool → ℕ → ℕ
-flag b weight = if b weight 0
-
--- DCSR: bit 7 if the last acknowledge was raster, bits 6, 5, 4 the interrupts of channels 0, 1, 2, bit 3 zero, bits 2-0 the enables
-unfoldable pub dcsr : Chip → ℕ
-dcsr c =
-    flag (c .interrupts .«last_raster») 128 + flag (channelOf (c .sound .channels) 0 .interrupt) 64
-    + flag (channelOf (c .sound .channels) 1 .interrupt) 32 + flag (channelOf (c .sound .channels) 2 .interrupt) 16
-    + flag (channelOf (c .sound .channels) 2 .enabled) 4 + flag (channelOf (c .sound .channels) 1 .enabled) 2
-    + flag (channelOf (c .sound .channels) 0 .enabled) 1
-
--- what a register reads as; one that can't be read gives the bus byte: magnification, 6800h to 6805h, and where nothing is
-abbrev pub registerRead : Chip → List ℕ → Register → ℕ → ℕ
-registerRead c store (Pixel i) bus = getD store i 0 % 16
-registerRead c store (SpriteAt n p) bus = if (ltb p 4) (shown (getD (c .sprites) n offSprite) p) bus
-registerRead c store (Palette i) bus = keptByte i (getD (c .palette) i 0)
-registerRead c store (VideoAt v) bus = bus
-registerRead c store Ivr bus = bus
-registerRead c store Converter bus = 0
-registerRead c store (ChannelAt n r) bus = dcsr c
-registerRead c store Dcsr bus = dcsr c
-registerRead c store Status bus = dcsr c
-registerRead c store Empty bus = bus
+-- what a page write promises: answer and chip, the store, the lent places, and the record as a list
+pub record Writes (c : Chip) (store places : List ℕ) (a b : ℕ) (store' places' : List ℕ) (r : Answered) : Type 0 where
+  pub call : Answers (writeAnswer c (length store) a) (pageWritten c (registerAt a) b) c r
+  pub store-after : store' ≡ served (writeAnswer c (length store) a) (storeWritten store (registerAt a) b) store
+  pub places-after : places' ≡ served (writeAnswer c (length store) a) (placesAfter c store places a) places
+  pub record-after :
+      recordIn (r .chip) places'
+      ≡ served (writeAnswer c (length store) a) (recordAfter c store places a) (recordIn c places)
 
 -- what a page read promises
 pub record Reads (c : Chip) (store : List ℕ) (a bus : ℕ) (r : ByteRead) : Type 0 where

@@ -1,32 +1,18 @@
-// The register page: reads and writes.
-pub mod address;
-
-use crate::address::ChannelRegister;
-use crate::address::Register;
-use crate::address::VideoRegister;
+// The register page: reads, writes with their record, and undo.
 use chip::Answered;
 use chip::Chip;
-use crtc::Video;
-use picture::sprite::Sprite;
-use sound::Channel;
-use sound::Sound;
-use words::answer::CONVERTER_THERE;
+use chip::Editing;
+use registers::address::Register;
+use ring::Undo;
 use words::answer::DONE;
 use words::answer::NOT_MAPPED;
-use words::answer::NOTHING_THERE;
+use words::answer::NOTHING_TO_UNDO;
 use words::answer::WRONG_LENGTH;
 ghost use mathlib.Core.Path.{_≡_};
-ghost use Prim.Native.Nat.{_<_, _≤_};
-ghost use lib.ListN.{length, set, getD};
-ghost use lib.Dec.{ltb};
-ghost use mathlib.Core.Bool.{false};
-ghost use Rattle.words.specs.Choice.{if};
-ghost use Rattle.sound.specs.Channels.{withFlags};
-ghost use Rattle.picture.specs.Sprites.{offSprite, shown};
-ghost use Rattle.picture.specs.Palette.{keptByte};
-ghost use Rattle.page.specs.Address.{Within};
-ghost use Rattle.page.specs.Page.{registerAnswer, pageAnswer, readAnswer, writeAnswer, spriteWritten, videoWritten, channelWritten, channelsWritten, dcsrWritten, registerWritten, Writes, dcsr, registerRead, Reads};
-ghost use Rattle.page.specs.Flags.{Flagged};
+ghost use Rattle.registers.specs.Registers.{registerAnswer};
+ghost use Rattle.page.specs.Page.{pageAnswer, readAnswer, Writes, Reads};
+ghost use Rattle.page.specs.Undo.{Undoes};
+ghost use Rattle.page.specs.Parts.{Keeps, Puts};
 
 // A page read's answer: the number, the chip, the byte.
 #[repr(C)]
@@ -34,24 +20,6 @@ pub struct ByteRead {
     pub answer: u8,
     pub chip: Chip,
     pub byte: u8,
-}
-
-// The answer number of a write to this register where the page is mapped.
-fn register_answer(register: Register) -> u8
-    ensures { λ r. ⌜ r ≡ registerAnswer register ⌝ }
-{
-    match register {
-        Register::Pixel(_) => DONE,
-        Register::Sprite(_, _) => DONE,
-        Register::Palette(_) => DONE,
-        Register::Video(_) => DONE,
-        Register::Ivr => DONE,
-        Register::Converter => CONVERTER_THERE,
-        Register::Channel(_, _) => DONE,
-        Register::Dcsr => DONE,
-        Register::Status => NOTHING_THERE,
-        Register::Empty => NOTHING_THERE,
-    }
 }
 
 // The answer number of a page read, for a store of this length.
@@ -81,238 +49,82 @@ fn write_answer(chip: Chip, size: usize, address: u16, register: Register) -> u8
     if answer != DONE {
         return answer;
     }
-    register_answer(register)
+    registers::writing::register_answer(register)
 }
 
-// The sprites with one register written.
-fn sprite_written(sprites: [Sprite; 16], n: usize, place: u8, byte: u8) -> [Sprite; 16]
-    requires { ⌜ n < 16 ⌝ }
-    ensures { λ r. ⌜ r ≡ spriteWritten sprites n place byte ⌝ }
+// The record with a write more, at lent places; one to DCSR is not kept.
+fn kept(undo: Undo, places: &mut [u32; 256], register: Register, entry: u32) -> Undo
+    ensures { λ r. ⌜ Keeps undo (now (places .entry)) register entry (now (places .exit)) r ⌝ }
 {
-    let mut all = sprites;
-    let sprite = all[n];
-    all[n] = sprite.written(place, byte);
-    all
-}
-
-// The palette with one byte written.
-fn palette_written(palette: [u8; 64], i: usize, byte: u8) -> [u8; 64]
-    requires { ⌜ i < 64 ⌝ }
-    ensures { λ r. ⌜ r ≡ set palette i (keptByte i byte) ⌝ }
-{
-    let mut all = palette;
-    all[i] = picture::palette::kept_byte(i, byte);
-    all
-}
-
-// PRI, split and SSCR with one of them written.
-fn video_written(video: Video, which: VideoRegister, byte: u8) -> Video
-    ensures { λ r. ⌜ r ≡ videoWritten video which byte ⌝ }
-{
-    let mut v = video;
-    match which {
-        VideoRegister::Pri => {
-            v.pri = byte;
-            v
-        }
-        VideoRegister::SplitLine => {
-            v.split_line = byte;
-            v
-        }
-        VideoRegister::SplitHigh => {
-            v.split_high = byte % 64;
-            v
-        }
-        VideoRegister::SplitLow => {
-            v.split_low = byte;
-            v
-        }
-        VideoRegister::Sscr => {
-            v.sscr = byte;
-            v
-        }
+    if let Register::Dcsr = register {
+        return undo;
     }
+    ring::push(undo, places, entry)
 }
 
-// A channel with its start address or prescale written.
-fn channel_written(channel: Channel, which: ChannelRegister, byte: u8) -> Channel
-    ensures { λ r. ⌜ r ≡ channelWritten channel which byte ⌝ }
+// A byte put into a register of the chip, or, for a pixel, another into the store.
+fn put(chip: Chip, store: &mut [u8], register: Register, byte: u8, pixel: u8) -> Chip
+    ensures { λ r. ⌜ Puts chip (now (store .entry)) register byte pixel (now (store .exit)) r ⌝ }
 {
-    let mut c = channel;
-    match which {
-        ChannelRegister::StartLow => {
-            c.address = c.address / 256 * 256 + byte as u16 / 2 * 2;
-            c
-        }
-        ChannelRegister::StartHigh => {
-            c.address = byte as u16 * 256 + c.address % 256;
-            c
-        }
-        ChannelRegister::Prescale => {
-            c.prescale = byte;
-            c
-        }
-    }
+    registers::writing::store_put(store, register, pixel);
+    registers::writing::register_written(chip, register, byte)
 }
 
-// A channel's enable and interrupt after a DCSR write, by its own two bits.
-fn control_written(channel: Channel, enable: bool, clear: bool) -> Channel
-    ensures { λ r. ⌜ r ≡ withFlags channel enable (if clear false (channel .interrupt)) ⌝ }
+// A byte written to the page. The record of writes stands at the lent places.
+pub fn page_write(
+    chip: Chip,
+    store: &mut [u8],
+    places: &mut [u32; 256],
+    address: u16,
+    byte: u8,
+) -> Answered
+    ensures { λ r. ⌜ Writes chip (now (store .entry)) (now (places .entry)) address byte (now (store .exit)) (now (places .exit)) r ⌝ }
 {
-    let mut c = channel;
-    c.enabled = enable;
-    if !clear {
-        return c;
-    }
-    c.interrupt = false;
-    c
-}
-
-// The sound state with one start address or prescale written.
-fn channels_written(mut sound: Sound, n: usize, which: ChannelRegister, byte: u8) -> Sound
-    requires { ⌜ n < 3 ⌝ }
-    ensures { λ r. ⌜ r ≡ record { channels = channelsWritten (sound .channels) n which byte; psg = sound .psg } ⌝ }
-{
-    let mut channels = sound.channels;
-    let channel = channels[n];
-    channels[n] = channel_written(channel, which, byte);
-    sound.channels = channels;
-    sound
-}
-
-// The sound state with DCSR written.
-fn dcsr_written(mut sound: Sound, byte: u8) -> Sound
-    ensures { λ r. ⌜ r ≡ record { channels = dcsrWritten (sound .channels) byte; psg = sound .psg } ⌝ }
-{
-    let channels = sound.channels;
-    let zero = control_written(channels[0], byte % 2 == 1, byte / 64 % 2 == 1);
-    let one = control_written(channels[1], byte / 2 % 2 == 1, byte / 32 % 2 == 1);
-    let two = control_written(channels[2], byte / 4 % 2 == 1, byte / 16 % 2 == 1);
-    let written = [zero, one, two];
-    sound.channels = written;
-    sound
-}
-
-// The chip with a register written. Pixels are not in the chip.
-fn register_written(mut chip: Chip, register: Register, byte: u8) -> Chip
-    requires { ⌜ Within register ⌝ }
-    ensures { λ r. ⌜ r ≡ registerWritten chip register byte ⌝ }
-{
-    match register {
-        Register::Pixel(_) => chip,
-        Register::Sprite(n, place) => {
-            let before = chip.sprites;
-            let sprites = sprite_written(before, n, place, byte);
-            chip.sprites = sprites;
-            chip
-        }
-        Register::Palette(i) => {
-            let before = chip.palette;
-            let palette = palette_written(before, i, byte);
-            chip.palette = palette;
-            chip
-        }
-        Register::Video(which) => {
-            chip.video = video_written(chip.video, which, byte);
-            chip
-        }
-        Register::Ivr => {
-            chip.interrupts.ivr = byte;
-            chip
-        }
-        Register::Converter => chip,
-        Register::Channel(n, which) => {
-            chip.sound = channels_written(chip.sound, n, which, byte);
-            chip
-        }
-        Register::Dcsr => {
-            chip.sound = dcsr_written(chip.sound, byte);
-            chip
-        }
-        Register::Status => chip,
-        Register::Empty => chip,
-    }
-}
-
-// A byte written to the page.
-pub fn page_write(chip: Chip, store: &mut [u8], address: u16, byte: u8) -> Answered
-    ensures { λ r. ⌜ Writes chip (now (store .entry)) address byte (now (store .exit)) r ⌝ }
-{
-    let register = address::register_at(address);
+    let register = registers::address::register_at(address);
     let answer = write_answer(chip, store.len(), address, register);
     if answer != DONE {
         return Answered { answer, chip };
     }
-    if let Register::Pixel(i) = register {
-        store[i] = byte % 16;
-        return Answered { answer: DONE, chip };
-    }
+    let before = contents::contents_of(chip, store, register);
+    let entry = address as u32 * 256 + before as u32;
+    let undo = kept(chip.editing.undo, places, register, entry);
+    let mut next = put(chip, store, register, byte, byte % 16);
+    let editing = Editing { undo };
+    next.editing = editing;
     Answered {
         answer: DONE,
-        chip: register_written(chip, register, byte),
+        chip: next,
     }
 }
 
-// A weight if the test holds, else 0.
-fn flag(on: bool, weight: u8) -> u8
-    ensures { λ r. ⌜ Flagged on weight r ⌝ }
+// Takes back the newest write that the record has left: its register gets its former contents.
+pub fn undo(chip: Chip, store: &mut [u8], places: &[u32; 256]) -> Answered
+    ensures { λ r. ⌜ Undoes chip (now (store .entry)) (now (places .entry)) (now (store .exit)) r ⌝ }
 {
-    if on {
-        return weight;
+    if store.len() != 4096 {
+        return Answered {
+            answer: WRONG_LENGTH,
+            chip,
+        };
     }
-    0
-}
-
-// What DCSR reads as.
-fn dcsr(chip: Chip) -> u8
-    ensures { λ r. ⌜ r ≡ dcsr chip ⌝ }
-{
-    let sound = chip.sound;
-    let channels = sound.channels;
-    let zero = channels[0];
-    let one = channels[1];
-    let two = channels[2];
-    flag(chip.interrupts.last_raster, 128)
-        + flag(zero.interrupt, 64)
-        + flag(one.interrupt, 32)
-        + flag(two.interrupt, 16)
-        + flag(two.enabled, 4)
-        + flag(one.enabled, 2)
-        + flag(zero.enabled, 1)
-}
-
-// What a sprite's register reads as; magnification can't be read.
-fn sprite_read(chip: Chip, n: usize, place: u8, bus: u8) -> u8
-    requires { ⌜ n < 16 ⌝ }
-    ensures { λ r. ⌜ r ≡ if (ltb place 4) (shown (getD (chip .sprites) n offSprite) place) bus ⌝ }
-{
-    if 4 <= place {
-        return bus;
+    let undo = chip.editing.undo;
+    if undo.count == 0 {
+        return Answered {
+            answer: NOTHING_TO_UNDO,
+            chip,
+        };
     }
-    let sprites = chip.sprites;
-    let sprite = sprites[n];
-    sprite.shown(place)
-}
-
-// What a register reads as.
-fn register_read(chip: Chip, store: &[u8], register: Register, bus: u8) -> u8
-    requires { ⌜ (Within register) × (length (now store) ≡ 4096) ⌝ }
-    ensures { λ r. ⌜ r ≡ registerRead chip (now (store .entry)) register bus ⌝ }
-{
-    match register {
-        Register::Pixel(i) => store[i] % 16,
-        Register::Sprite(n, place) => sprite_read(chip, n, place, bus),
-        Register::Palette(i) => {
-            let palette = chip.palette;
-            picture::palette::kept_byte(i, palette[i])
-        }
-        Register::Video(_) => bus,
-        Register::Ivr => bus,
-        Register::Converter => 0,
-        Register::Channel(_, _) => dcsr(chip),
-        Register::Dcsr => dcsr(chip),
-        Register::Status => dcsr(chip),
-        Register::Empty => bus,
+    let popped = ring::pop(undo, places);
+    let entry = popped.entry;
+    let rest = popped.undo;
+    let register = registers::address::register_at((entry / 256 % 65536) as u16);
+    let byte = (entry % 256) as u8;
+    let mut next = put(chip, store, register, byte, byte);
+    let editing = Editing { undo: rest };
+    next.editing = editing;
+    Answered {
+        answer: DONE,
+        chip: next,
     }
 }
 
@@ -328,10 +140,10 @@ pub fn page_read(chip: Chip, store: &[u8], address: u16, bus: u8) -> ByteRead
             byte: 0,
         };
     }
-    let register = address::register_at(address);
+    let register = registers::address::register_at(address);
     ByteRead {
         answer: DONE,
         chip,
-        byte: register_read(chip, store, register, bus),
+        byte: registers::reading::register_read(chip, store, register, bus),
     }
 }

@@ -1,7 +1,10 @@
 -- 01, "The register page": a sprite's registers. The coordinates are signed.
-use Prim.Native.Nat.{ℕ, _+_, _-_, _*_, _/_, _%_}
+use mathlib.Core.Path.{_≡_}
+use mathlib.Core.List.{List, [], _∷_}
+use Prim.Native.Nat.{ℕ, zero, suc, _+_, _-_, _*_, _/_, _%_}
 use lib.Dec.{eqb, leb}
 use lib.IntN.{ℤ, pos, negsuc}
+use lib.ListN.{getD}
 use Rattle.words.specs.Choice.{if}
 use Rattle.picture.specs.declared.sprite.Sprite.{Sprite}
 
@@ -53,3 +56,26 @@ shown s place =
     if (eqb place 0) (lowShown 1024 (s .x))
     (if (eqb place 1) (highShown 1024 (s .x))
     (if (eqb place 2) (lowShown 512 (s .y)) (if (eqb place 3) (highShown 512 (s .y)) 0)))
+
+-- 02, L5: the contents of the five registers in the order of their places: X and Y as their 10 and 9 bits, magnification's 4
+abbrev pub spriteBytes : Sprite → List ℕ
+spriteBytes s =
+    rawOf 1024 (s .x) % 256 ∷ rawOf 1024 (s .x) / 256 ∷ rawOf 512 (s .y) % 256 ∷ rawOf 512 (s .y) / 256 ∷
+    s .magnification % 16 ∷ []
+
+unfoldable pub spriteContents : Sprite → ℕ → ℕ
+spriteContents s place = getD (spriteBytes s) place 0
+
+-- what a write at a place keeps of its byte
+abbrev pub spriteKept : ℕ → ℕ → ℕ
+spriteKept zero b = b
+spriteKept (suc zero) b = b % 4
+spriteKept (suc (suc zero)) b = b
+spriteKept (suc (suc (suc zero))) b = b % 2
+spriteKept (suc (suc (suc (suc place)))) b = b % 16
+
+-- a sprite within the widths: its coordinates are those that their bits mean, and magnification has 4 bits
+pub record SpriteWidths (s : Sprite) : Type 0 where
+  pub x-width : xOf (rawOf 1024 (s .x)) ≡ s .x
+  pub y-width : yOf (rawOf 512 (s .y)) ≡ s .y
+  pub scales : s .magnification % 16 ≡ s .magnification

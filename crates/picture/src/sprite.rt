@@ -1,7 +1,7 @@
 // A sprite's registers: the position, which is signed, and the magnification.
 ghost use mathlib.Core.Path.{_≡_};
 ghost use Prim.Native.Nat.{_<_, _≤_};
-ghost use Rattle.picture.specs.Sprites.{rawOf, coordinate, written, lowShown, highShown, shown};
+ghost use Rattle.picture.specs.Sprites.{rawOf, coordinate, written, lowShown, highShown, shown, spriteContents};
 
 // X from -256 to 767 and Y from -256 to 255 where written through the page; magnification has 4 bits: 3-2 for X, 1-0 for Y.
 #[repr(C)]
@@ -100,6 +100,19 @@ impl Sprite {
             1 => high_byte(self.x, 1024),
             2 => low_byte(self.y, 512),
             3 => high_byte(self.y, 512),
+            _ => 0,
+        }
+    }
+    // The contents of the sprite's register at this place, 0 to 4: the bits that it keeps. Others have none, which is 0.
+    pub fn contents(self, place: u8) -> u8
+        ensures { λ r. ⌜ r ≡ spriteContents self place ⌝ }
+    {
+        match place {
+            0 => (raw_of(self.x, 1024) % 256) as u8,
+            1 => (raw_of(self.x, 1024) / 256) as u8,
+            2 => (raw_of(self.y, 512) % 256) as u8,
+            3 => (raw_of(self.y, 512) / 256) as u8,
+            4 => self.magnification % 16,
             _ => 0,
         }
     }

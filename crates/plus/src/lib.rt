@@ -16,6 +16,8 @@ ghost use Rattle.chip.specs.Ports.{Selects, dataAnswer, dataWritten, gateAnswer
 ghost use Rattle.chip.specs.Reset.{Reset};
 ghost use Rattle.picture.specs.Palette.{greyOf};
 ghost use Rattle.page.specs.Page.{Reads, Writes};
+ghost use Rattle.page.specs.Undo.{Undoes};
+ghost use Rattle.export.specs.Export.{Exports};
 ghost use Rattle.draw.specs.Drawing.{Draws};
 ghost use Rattle.listing.specs.Print.{Printing};
 ghost use Rattle.listing.specs.Read.{Reading};
@@ -82,12 +84,34 @@ pub extern "C" fn plus_page_read(chip: Chip, store: &[u8], address: u16, bus: u8
     page::page_read(chip, store, address, bus)
 }
 
-// A byte written to the page.
+// A byte written to the page, and the write kept for undo.
 #[no_mangle]
-pub extern "C" fn plus_page_write(chip: Chip, store: &mut [u8], address: u16, byte: u8) -> Answered
-    ensures { λ r. ⌜ Writes chip (now (store .entry)) address byte (now (store .exit)) r ⌝ }
+pub extern "C" fn plus_page_write(
+    chip: Chip,
+    store: &mut [u8],
+    places: &mut [u32; 256],
+    address: u16,
+    byte: u8,
+) -> Answered
+    ensures { λ r. ⌜ Writes chip (now (store .entry)) (now (places .entry)) address byte (now (store .exit)) (now (places .exit)) r ⌝ }
 {
-    page::page_write(chip, store, address, byte)
+    page::page_write(chip, store, places, address, byte)
+}
+
+// The newest write that is kept, taken back.
+#[no_mangle]
+pub extern "C" fn plus_undo(chip: Chip, store: &mut [u8], places: &[u32; 256]) -> Answered
+    ensures { λ r. ⌜ Undoes chip (now (store .entry)) (now (places .entry)) (now (store .exit)) r ⌝ }
+{
+    page::undo(chip, store, places)
+}
+
+// The contents of the registers outside the pixels, into 477 bytes.
+#[no_mangle]
+pub extern "C" fn plus_export(chip: Chip, out: &mut [u8]) -> u8
+    ensures { λ r. ⌜ Exports chip (now (out .entry)) (now (out .exit)) r ⌝ }
+{
+    export::export(chip, out)
 }
 
 // Interrupt acknowledge.

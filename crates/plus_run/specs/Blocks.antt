@@ -6,11 +6,11 @@ use lib.Dec.{leb}
 use lib.ListN.{length, getD}
 use Rattle.words.specs.Choice.{if}
 use Rattle.chip.specs.declared.Chip.{Chip}
-use Rattle.plus_run.specs.declared.calls.Machine.{Machine}
-use Rattle.plus_run.specs.declared.calls.Record.{Record}
-use Rattle.plus_run.specs.Text.{Puts}
-use Rattle.plus_run.specs.Lines.{shortLine}
-use Rattle.plus_run.specs.Calls.{Outcome, outcome}
+use Rattle.calls.specs.declared.Machine.{Machine}
+use Rattle.calls.specs.declared.Record.{Record}
+use Rattle.text.specs.Text.{Puts}
+use Rattle.text.specs.Lines.{shortLine}
+use Rattle.calls.specs.Calls.{Outcome, outcome}
 
 -- the address of the record at a place of a block, low byte first
 abbrev pub addressAt : List ℕ → ℕ → ℕ
@@ -53,18 +53,19 @@ pub record State : Type 0 where
   pub chip : Chip
   pub ram : List ℕ
   pub store : List ℕ
+  pub places : List ℕ
 
-abbrev pub stateOf : Machine → List ℕ → List ℕ → State
-stateOf m ram store = record { chip = m .chip; ram = ram; store = store }
+abbrev pub stateOf : Machine → List ℕ → List ℕ → List ℕ → State
+stateOf m ram store places = record { chip = m .chip; ram = ram; store = store; places = places }
 
 abbrev pub left-by : Outcome → State
-left-by o = record { chip = o .chip; ram = o .ram; store = o .store }
+left-by o = record { chip = o .chip; ram = o .ram; store = o .store; places = o .places }
 
 -- the state after the record at a place of a block
 unfoldable pub after : State → List ℕ → ℕ → State
 after s block i =
     left-by
-    (outcome (s .chip) (s .ram) (s .store) (getD block i 0) (addressAt block i)
+    (outcome (s .chip) (s .ram) (s .store) (s .places) (getD block i 0) (addressAt block i)
     (getD block (i + 3) 0))
 
 -- the state after the first k records of a block

@@ -1,6 +1,2 @@
--- What the program prints and does: text, the lines, a record, a block of records.
-pub mod Text
-pub mod Lines
-pub mod Paint
-pub mod Calls
+-- What the program does with a block of records.
 pub mod Blocks

@@ -1,14 +1,10 @@
 // Plays calls of the chip from standard input and prints a line for each. The input is RAM, the pixel store, then records of
 // four bytes: a letter, the address low and high, a value.
-mod calls;
-mod lines;
-mod paint;
-mod text;
-
-use crate::calls::Machine;
-use crate::calls::Record;
+use calls::Machine;
+use calls::Record;
 use libc::STDIN_FILENO;
 use libc::STDOUT_FILENO;
+use text::lines;
 ghost use mathlib.Core.Path.{_≡_};
 ghost use Prim.Native.Nat.{_+_, _/_, _≤_};
 ghost use lib.ListN.{length};
@@ -61,29 +57,37 @@ fn turn(
     m: Machine,
     ram: &mut [u8],
     store: &mut [u8],
+    places: &mut [u32; 256],
     out: &mut [u8],
     block: &[u8],
     i: usize,
 ) -> Machine
     requires { ⌜ (Ready m (now ram) (now out)) × (i + 4 ≤ length (now block)) ⌝ }
     ensures { λ r. ⌜ Ready r (now (ram .exit)) (now (out .exit)) ⌝ }
-    ensures { λ r. ⌜ stateOf r (now (ram .exit)) (now (store .exit)) ≡ after (stateOf m (now (ram .entry)) (now (store .entry))) (now (block .entry)) i ⌝ }
+    ensures { λ r. ⌜ stateOf r (now (ram .exit)) (now (store .exit)) (now (places .exit)) ≡ after (stateOf m (now (ram .entry)) (now (store .entry)) (now (places .entry))) (now (block .entry)) i ⌝ }
 {
     let ready = with_room(m, out);
-    calls::serve(ready, ram, store, out, record_at(block, i))
+    calls::serve(ready, ram, store, places, out, record_at(block, i))
 }
 
 // Every whole record of a block.
-fn records(m: Machine, ram: &mut [u8], store: &mut [u8], out: &mut [u8], block: &[u8]) -> Machine
+fn records(
+    m: Machine,
+    ram: &mut [u8],
+    store: &mut [u8],
+    places: &mut [u32; 256],
+    out: &mut [u8],
+    block: &[u8],
+) -> Machine
     requires { ⌜ Ready m (now ram) (now out) ⌝ }
     ensures { λ r. ⌜ Ready r (now (ram .exit)) (now (out .exit)) ⌝ }
-    ensures { λ r. ⌜ stateOf r (now (ram .exit)) (now (store .exit)) ≡ played (stateOf m (now (ram .entry)) (now (store .entry))) (now (block .entry)) (length (now (block .entry)) / 4) ⌝ }
+    ensures { λ r. ⌜ stateOf r (now (ram .exit)) (now (store .exit)) (now (places .exit)) ≡ played (stateOf m (now (ram .entry)) (now (store .entry)) (now (places .entry))) (now (block .entry)) (length (now (block .entry)) / 4) ⌝ }
 {
     let whole = block.len() / 4;
     let mut machine = m;
     let mut k = 0;
     while k < whole {
-        machine = turn(machine, ram, store, out, block, k * 4);
+        machine = turn(machine, ram, store, places, out, block, k * 4);
         k += 1;
     }
     machine
@@ -108,6 +112,7 @@ fn block_played(
     m: Machine,
     ram: &mut [u8],
     store: &mut [u8],
+    places: &mut [u32; 256],
     out: &mut [u8],
     block: &mut [u8],
 ) -> Progress
@@ -115,7 +120,7 @@ fn block_played(
     ensures { λ r. ⌜ Ready (r .machine) (now (ram .exit)) (now (out .exit)) ⌝ }
 {
     let n = io::read_full(STDIN_FILENO, block);
-    let played = records(m, ram, store, out, &block[..n]);
+    let played = records(m, ram, store, places, out, &block[..n]);
     if n == block.len() {
         return Progress {
             machine: played,
@@ -130,7 +135,14 @@ fn block_played(
 }
 
 // Every block. A proved loop has to end, so the turns are counted down from a number that no input uses up.
-fn blocks(m: Machine, ram: &mut [u8], store: &mut [u8], out: &mut [u8], block: &mut [u8]) -> Machine
+fn blocks(
+    m: Machine,
+    ram: &mut [u8],
+    store: &mut [u8],
+    places: &mut [u32; 256],
+    out: &mut [u8],
+    block: &mut [u8],
+) -> Machine
     requires { ⌜ Ready m (now ram) (now out) ⌝ }
     ensures { λ r. ⌜ Ready r (now (ram .exit)) (now (out .exit)) ⌝ }
 {
@@ -140,7 +152,7 @@ fn blocks(m: Machine, ram: &mut [u8], store: &mut [u8], out: &mut [u8], block: &
     };
     let mut turns: u64 = 0x100000000;
     while turns > 0 && progress.more {
-        progress = block_played(progress.machine, ram, store, out, block);
+        progress = block_played(progress.machine, ram, store, places, out, block);
         turns -= 1;
     }
     progress.machine
@@ -152,11 +164,12 @@ fn play(ram: &mut [u8], store: &mut [u8])
 {
     let mut out = io::large_buffer();
     let mut block = io::large_buffer();
+    let mut places = [0u32; 256];
     let first = Machine {
         chip: chip::start::reset(),
         at: 0,
     };
-    let end = blocks(first, ram, store, &mut out, &mut block);
+    let end = blocks(first, ram, store, &mut places, &mut out, &mut block);
     flush(&out, end.at);
 }
 

@@ -4,6 +4,7 @@ use mathlib.Core.Bool.{Bool, true, false}
 use mathlib.Core.List.{List, []}
 use Prim.Native.Nat.{ℕ}
 use lib.Dec.{eqb}
+use lib.ListN.{replicate}
 use contract.Lifetimes.{Lfts}
 use denote.Ref.{RefT, now}
 use borrow.Author.Tests.{eq-eqb, ne-eqb}
@@ -14,9 +15,10 @@ use Rattle.chip.specs.declared.Chip.{Chip}
 use Rattle.chip.specs.declared.Answered.{Answered}
 use Rattle.chip.specs.Contracts.{Answers}
 use Rattle.chip.specs.Ports.{selected, Selects}
+use Rattle.page.proofs.Ways.{write-possible, undo-possible}
 use Rattle.runs.specs.Call as call
 use Rattle.runs.specs.Call.{Call}
-use Rattle.runs.specs.Ask.{Ask, bc, bd, gate, read, write, ack, asked, answerTo, servedChip, chipAfter}
+use Rattle.runs.specs.Ask.{Ask, bc, bd, gate, read, write, undo, ack, asked, answerTo, servedChip, chipAfter}
 
 -- a served call gives the next chip, and a refusal leaves it as it was
 pub changed : {A : Type 0} (answer : ℕ) (next c : A) → answer ≡ done → served answer next c ≡ next
@@ -49,7 +51,8 @@ fixed (call.bd b r l e f) = let x = by-answers l e f in record { answer-is = x .
 fixed (call.gate b r l e f) = let x = by-answers l e f in record { answer-is = x .0; chip-is = x .1 }
 fixed (call.read κs store a bus r l e f) =
     record { answer-is = sym e ∙ l .answer; chip-is = sym f ∙ l .chip ∙ same-chip (answerTo _ (read (now store) a bus)) _ }
-fixed (call.write κs store after a b r l e f) =
+fixed (call.undo κs store places store' r l e f) = let x = by-answers (l .call) e f in record { answer-is = x .0; chip-is = x .1 }
+fixed (call.write κs store places store' places' a b r l e f) =
     let x = by-answers (l .call) e f in record { answer-is = x .0; chip-is = x .1 }
 fixed (call.ack r l e f) = record { answer-is = sym e ∙ l .answer; chip-is = sym f ∙ l .chip }
 
@@ -59,6 +62,9 @@ lending bytes = record { ptr = (0, 0); name = 0; now = bytes }
 
 abbrev pub lifetime : Lfts 1
 lifetime = ([], tt)
+
+abbrev pub lifetimes : Lfts 2
+lifetimes = ([], ([], tt))
 
 -- a call that was asked this
 pub record Made (c : Chip) (x : Ask) : Type 0 where
@@ -86,9 +92,11 @@ makes c (read store a bus) =
     }
 makes c (write store a b) =
     record {
-      made = call.write lifetime (lending store) _ a b _ (record { call = answers _ _ c; store-after = refl }) refl refl;
+      made = call.write lifetimes (lending store) (lending (replicate 256 0)) _ _ a b _ (write-possible c store (replicate 256 0) a b refl) refl refl;
       is = refl;
     }
+makes c (undo store places) =
+    record { made = call.undo lifetimes (lending store) (lending places) _ _ (undo-possible c store places) refl refl; is = refl }
 makes c ack =
     record {
       made =

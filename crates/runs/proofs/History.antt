@@ -15,11 +15,14 @@ use Rattle.chip.specs.declared.Chip.{Chip}
 use Rattle.chip.specs.Ports.{selected, dataAnswer, dataWritten, gateAnswer, gateWritten}
 use Rattle.chip.specs.Interrupts.{acknowledgeAnswer, acknowledged}
 use Rattle.chip.specs.Step.{stepAnswer, stepped as steppedChip, counted}
-use Rattle.page.specs.declared.address.Register.{Register}
-use Rattle.page.specs.declared.address.Register.the-variants.{Pixel, Sprite, Palette, Video, Ivr, Converter, Channel, Dcsr, Status, Empty}
-use Rattle.page.specs.Address.{registerAt}
-use Rattle.page.specs.Page.{readAnswer, writeAnswer, registerWritten}
-use Rattle.runs.specs.Ask.{Ask, bc, bd, gate, read, write, ack, asked, chipAfter}
+use Rattle.registers.specs.declared.address.Register.{Register}
+use Rattle.registers.specs.declared.address.Register.the-variants.{Pixel, Sprite, Palette, Video, Ivr, Converter, Channel, Dcsr, Status, Empty}
+use Rattle.registers.specs.Address.{registerAt}
+use Rattle.registers.specs.Registers.{registerWritten}
+use Rattle.page.specs.Page.{readAnswer, writeAnswer, pageWritten}
+use Rattle.page.specs.Record.{entryRegister, entryContents}
+use Rattle.page.specs.Undo.{undoAnswer, newest, undone}
+use Rattle.runs.specs.Ask.{Ask, bc, bd, gate, read, write, undo, ack, asked, chipAfter}
 use Rattle.runs.specs.Reached.{fedBy, Reached, fresh, called, stepped}
 use Rattle.runs.proofs.Asks.{fixed}
 
@@ -67,12 +70,14 @@ module _ (c : Chip) (h : List ℕ) (t : Tracks h (c .lock)) where
 
   -- any call
   ask-tracks : (x : Ask) → Tracks (fedBy x h) (chipAfter c x .lock)
-  unfolding selected
+  unfolding selected pageWritten undone
   ask-tracks (bc b) = feeds (c .lock) b _ refl .tracks h t
   ask-tracks (bd b) = left-lock (dataAnswer c) (dataWritten c b) (data-lock c b)
   ask-tracks (gate b) = left-lock (gateAnswer b) (gateWritten c b) (gate-lock c b)
   ask-tracks (read store a bus) = left-lock (readAnswer c (length store) a) c refl
-  ask-tracks (write store a b) = left-lock (writeAnswer c (length store) a) (registerWritten c (registerAt a) b) (page-lock c (registerAt a) b)
+  ask-tracks (write store a b) = left-lock (writeAnswer c (length store) a) (pageWritten c (registerAt a) b) (page-lock c (registerAt a) b)
+  ask-tracks (undo store places) = left-lock (undoAnswer c (length store)) (undone c (newest c places))
+      (page-lock c (entryRegister (newest c places)) (entryContents (newest c places)))
   ask-tracks ack = left-lock (acknowledgeAnswer c) (acknowledged c) (acknowledge-lock c)
 
   chip-tracks : (x : Ask) (d : Chip) → d ≡ chipAfter c x → Tracks (fedBy x h) (d .lock)
@@ -81,7 +86,7 @@ module _ (c : Chip) (h : List ℕ) (t : Tracks h (c .lock)) where
 -- the lock has been fed exactly these bytes
 pub tracks : {h : List ℕ} {c : Chip} → Reached h c → Tracks h (c .lock)
 tracks (fresh l) = l .tracks
-tracks (called {h} {c} {d} p k) = chip-tracks c h (tracks p) (asked k) d (fixed k .chip-is)
+tracks (called {h} {c} {d} p k typed) = chip-tracks c h (tracks p) (asked k) d (fixed k .chip-is)
 tracks (stepped {h} {c} κs ram r p l e) =
     rw (← e, l .chip) (left-lock c h (tracks p) (stepAnswer (now ram)) (steppedChip (now ram) c) (step-lock (now ram) c))
 

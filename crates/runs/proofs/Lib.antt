@@ -1,3 +1,6 @@
 -- Laws over runs.
 pub mod Asks
 pub mod History
+pub mod Within
+pub mod Stories
+pub mod TakesBack

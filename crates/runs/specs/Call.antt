@@ -13,10 +13,11 @@ use Rattle.chip.proofs.ports.write_bd.Reads as write-bd
 use Rattle.chip.proofs.ports.write_7f.Reads as write-7f
 use Rattle.page.proofs.page_read.Reads as page-read
 use Rattle.page.proofs.page_write.Reads as page-write
+use Rattle.page.proofs.undo.Reads as page-undo
 use Rattle.chip.proofs.acknowledge.acknowledge.Reads as acknowledge
 
 -- whatever its arguments and buffers, from the chip c: its answer, and the chip d after it. A BCxx, 6845 data or 7Fxx write, a page
--- read or write, or an acknowledge
+-- read or write, an undo, or an acknowledge
 pub data Call (c : Chip) (answer : ℕ) (d : Chip) : Type 0 where
   bc :
       (b : ℕ) (r : Answered) →
@@ -32,7 +33,12 @@ pub data Call (c : Chip) (answer : ℕ) (d : Chip) : Type 0 where
       page-read.Learnt κs (c, (store, (a, (bus, tt)))) r (c, (store, (a, (bus, tt)))) →
       r .answer ≡ answer → r .chip ≡ d → Call c answer d
   write :
-      (κs : Lfts 1) (store : RefT (List ℕ)) (after : List ℕ) (a b : ℕ) (r : Answered) →
-      page-write.Learnt κs (c, (store, (a, (b, tt)))) r (c, (at-last store after, (a, (b, tt)))) →
+      (κs : Lfts 2) (store places : RefT (List ℕ)) (store' places' : List ℕ) (a b : ℕ) (r : Answered) →
+      page-write.Learnt κs (c, (store, (places, (a, (b, tt))))) r
+      (c, (at-last store store', (at-last places places', (a, (b, tt))))) →
+      r .answer ≡ answer → r .chip ≡ d → Call c answer d
+  undo :
+      (κs : Lfts 2) (store places : RefT (List ℕ)) (store' : List ℕ) (r : Answered) →
+      page-undo.Learnt κs (c, (store, (places, tt))) r (c, (at-last store store', (places, tt))) →
       r .answer ≡ answer → r .chip ≡ d → Call c answer d
   ack : (r : Acknowledged) → acknowledge.Learnt tt (c, tt) r (c, tt) → r .answer ≡ answer → r .chip ≡ d → Call c answer d

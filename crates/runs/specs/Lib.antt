@@ -2,3 +2,4 @@
 pub mod Call
 pub mod Ask
 pub mod Reached
+pub mod Story

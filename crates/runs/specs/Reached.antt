@@ -9,7 +9,7 @@ use Rattle.chip.specs.declared.Stepped.{Stepped}
 use Rattle.chip.proofs.start.reset.Reads as reset
 use Rattle.chip.proofs.line.step.Reads as step
 use Rattle.runs.specs.Call.{Call}
-use Rattle.runs.specs.Ask.{Ask, bc, bd, gate, read, write, ack, asked}
+use Rattle.runs.specs.Ask.{Ask, bc, bd, gate, read, write, undo, ack, asked, Typed}
 
 -- the bytes since reset, newest first, after a call: a BCxx write adds its byte
 abbrev pub fedBy : Ask → List ℕ → List ℕ
@@ -18,12 +18,14 @@ fedBy (bd b) h = h
 fedBy (gate b) h = h
 fedBy (read store a bus) h = h
 fedBy (write store a b) h = h
+fedBy (undo store places) h = h
 fedBy ack h = h
 
 -- the chip that reset gives, or one that a call or a line step left, served or refused, of a chip so reached
 pub data Reached : List ℕ → Chip → Type 0 where
   fresh : {c : Chip} → reset.Learnt tt tt c tt → Reached [] c
-  called : {h : List ℕ} {c d : Chip} {answer : ℕ} → Reached h c → (k : Call c answer d) → Reached (fedBy (asked k) h) d
+  called :
+      {h : List ℕ} {c d : Chip} {answer : ℕ} → Reached h c → (k : Call c answer d) → Typed (asked k) → Reached (fedBy (asked k) h) d
   stepped :
       {h : List ℕ} {c d : Chip} (κs : Lfts 1) (ram : RefT (List ℕ)) (r : Stepped) →
       Reached h c → step.Learnt κs (c, (ram, tt)) r (c, (ram, tt)) → r .chip ≡ d → Reached h d

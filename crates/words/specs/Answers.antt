@@ -43,6 +43,10 @@ tooSmall = 8
 abbrev pub converterThere : ℕ
 converterThere = 9
 
+-- nothing left to undo
+abbrev pub nothingToUndo : ℕ
+nothingToUndo = 10
+
 -- what a served call gives, or what stands in its place where the number is a refusal
 abbrev pub served : {A : Type 0} → ℕ → A → A → A
 served number x other = if (eqb number done) x other

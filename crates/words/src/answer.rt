@@ -25,5 +25,8 @@ pub const NOT_LISTING: u8 = 7;
 // the output buffer is too small;
 pub const TOO_SMALL: u8 = 8;
 
-// a converter there, which is only read.
+// a converter there, which is only read;
 pub const CONVERTER_THERE: u8 = 9;
+
+// nothing left to undo.
+pub const NOTHING_TO_UNDO: u8 = 10;

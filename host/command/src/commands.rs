@@ -1,5 +1,6 @@
 //! The commands, and how one is chosen.
 
+mod export;
 mod forecast;
 mod frame;
 mod install;
@@ -10,6 +11,8 @@ mod run;
 use crate::failure::Failure;
 use crate::help;
 use crate::output::Output;
+use crate::player::Player;
+use crate::scene;
 use crate::Done;
 use std::ffi::OsString;
 use std::fs;
@@ -33,6 +36,7 @@ pub const COMMANDS: &[Command] = &[
     read::COMMAND,
     run::COMMAND,
     frame::COMMAND,
+    export::COMMAND,
     install::COMMAND,
 ];
 
@@ -88,4 +92,17 @@ fn is_option(word: &OsString) -> bool {
 /// A whole file.
 fn contents(path: &Path) -> Result<Vec<u8>, Failure> {
     fs::read(path).map_err(Failure::file(path))
+}
+
+/// A file written, or written over.
+fn write(path: &Path, contents: impl AsRef<[u8]>) -> Done {
+    fs::write(path, contents).map_err(Failure::file(path))
+}
+
+/// The scene of a file, after its last record.
+fn played(path: &Path) -> Result<Player, Failure> {
+    scene::played(&contents(path)?).map_err(|short| Failure::Short {
+        path: path.to_owned(),
+        short,
+    })
 }

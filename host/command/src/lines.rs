@@ -14,7 +14,8 @@ impl fmt::Display for Outcome {
             Outcome::Byte(answer, byte) => write!(f, "{answer} {byte}"),
             Outcome::Line(answer, report) => stepped(f, *answer, report),
             Outcome::Drawn(answer::DONE, line) => drawn(f, &line[..]),
-            Outcome::Drawn(answer, _) => write!(f, "{answer}"),
+            Outcome::Exported(answer::DONE, out) => exported(f, &out[..]),
+            Outcome::Drawn(answer, _) | Outcome::Exported(answer, _) => write!(f, "{answer}"),
             Outcome::Forecast(told) => forecast(f, told),
             Outcome::Bad => f.write_str("bad"),
         }
@@ -49,6 +50,12 @@ fn drawn(f: &mut fmt::Formatter, line: &[u8]) -> fmt::Result {
     let character = |&entry: &u8| char::from_digit(entry.into(), 32).unwrap_or('?');
     let text: String = line.iter().map(character).collect();
     write!(f, "{} {text}", answer::DONE)
+}
+
+/// Two hexadecimal digits a byte.
+fn exported(f: &mut fmt::Formatter, out: &[u8]) -> fmt::Result {
+    write!(f, "{} ", answer::DONE)?;
+    out.iter().try_for_each(|byte| write!(f, "{byte:02x}"))
 }
 
 /// The answer, lines, cycles, and how many bytes the list has.

@@ -1,7 +1,7 @@
 //! The playing of a scene: each record's call, made on the proved core.
 
 use crate::scene::Record;
-use plus::{answer, Chip, Length, Report, LINE};
+use plus::{answer, Chip, Length, Report, EXPORT, LINE};
 
 /// A chip, and what is lent to it.
 pub struct Player {
@@ -20,6 +20,8 @@ pub enum Outcome {
     Line(u8, Report),
     /// A drawn line.
     Drawn(u8, Box<[u8; LINE]>),
+    /// An export.
+    Exported(u8, Box<[u8; EXPORT]>),
     /// A forecast.
     Forecast(Length),
     /// The letter names no call.
@@ -45,6 +47,8 @@ impl Player {
             b'G' => Outcome::Answer(self.chip.write_7f(value)),
             b'W' => Outcome::Answer(self.chip.page_write(&mut self.store, address, value)),
             b'R' => self.read(address, value),
+            b'U' => Outcome::Answer(self.chip.undo(&mut self.store)),
+            b'E' => self.export(),
             b'A' => self.acknowledge(),
             b'L' => self.step(),
             b'P' => self.draw(),
@@ -58,6 +62,12 @@ impl Player {
     fn read(&mut self, address: u16, bus: u8) -> Outcome {
         let (answer, byte) = self.chip.page_read(&self.store, address, bus);
         Outcome::Byte(answer, byte)
+    }
+
+    fn export(&mut self) -> Outcome {
+        let mut out = Box::new([0; EXPORT]);
+        let answer = self.chip.export(&mut out[..]);
+        Outcome::Exported(answer, out)
     }
 
     fn acknowledge(&mut self) -> Outcome {
@@ -83,7 +93,7 @@ impl Player {
     }
 
     fn reset(&mut self) -> Outcome {
-        self.chip = Chip::new();
+        self.chip.reset();
         Outcome::Answer(answer::DONE)
     }
 }

@@ -47,6 +47,15 @@ pub fn open(file: &[u8]) -> Result<(Player, Records<'_>), Short> {
     Ok((Player::new(ram, store), Records { bytes, taken: 0 }))
 }
 
+/// A scene after its last record.
+pub fn played(file: &[u8]) -> Result<Player, Short> {
+    let (mut player, records) = open(file)?;
+    for record in records {
+        player.play(record?);
+    }
+    Ok(player)
+}
+
 impl Iterator for Records<'_> {
     type Item = Result<Record, Short>;
 

@@ -1,5 +1,4 @@
-//! The chip as document 01 describes it, and the requests after it, written from
-//! those documents alone.
+//! The chip as documents 01 and 02 describe it, written from these alone.
 //!
 //! The state and its reset are here; each group of calls has its own file.
 
@@ -12,6 +11,7 @@ mod lock;
 mod page;
 mod ports;
 mod sound;
+mod undo;
 
 pub use draw::byte_address;
 pub use forecast::{forecast, list};
@@ -32,12 +32,17 @@ pub mod answer {
     pub const NOT_LISTING: u8 = 7;
     pub const TOO_SMALL: u8 = 8;
     pub const CONVERTER_THERE: u8 = 9;
+    pub const NOTHING_TO_UNDO: u8 = 10;
 }
 
 /// Lengths of the lent buffers.
 pub const RAM: usize = 65_536;
 pub const STORE: usize = 4_096;
 pub const LINE: usize = 640;
+pub const EXPORT: usize = 477;
+
+/// How many page writes can be undone.
+pub const KEPT: usize = 256;
 
 /// The lock. `stage` only shows what the history of bytes says.
 #[derive(Clone, Copy, Debug, Default, PartialEq, Eq)]
@@ -160,6 +165,9 @@ pub struct Model {
     pub palette: [u8; 64],
     pub sound: Sound,
     pub interrupts: Interrupts,
+    /// The page writes that can be undone, the newest last: addresses, and what
+    /// their registers held before.
+    pub record: Vec<(u16, u8)>,
     /// The last bytes written to BCxx; what decides the lock.
     history: History,
 }
@@ -179,6 +187,7 @@ impl Model {
                 ivr: 0x01,
                 ..Interrupts::default()
             },
+            record: Vec::new(),
             history: History::new(),
         }
     }

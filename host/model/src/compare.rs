@@ -1,5 +1,6 @@
 //! The comparison: one script run on the proved core and on another machine,
-//! with every answer, the whole state and every buffer compared after each call.
+//! with every answer, the whole state, the record of page writes and every buffer
+//! compared after each call.
 
 mod call;
 mod differ;
@@ -11,7 +12,7 @@ pub use call::{Answer, Buffers, Call};
 pub use script::Script;
 
 use crate::machine::Machine;
-use plus::Chip;
+use plus::{Chip, Undo, PLACES};
 use std::fmt;
 
 /// How often each call gave each answer number; `Call::NAMES` names the rows.
@@ -19,7 +20,10 @@ use std::fmt;
 pub struct Tally {
     pub scripts: u64,
     pub calls: u64,
-    pub answers: [[u64; 10]; Call::NAMES.len()],
+    pub answers: [[u64; 11]; Call::NAMES.len()],
+    /// How often the record became full, and how often it dropped a write then.
+    pub filled: u64,
+    pub dropped: u64,
 }
 
 impl Tally {
@@ -27,6 +31,18 @@ impl Tally {
         if let Some(row) = call.row() {
             self.calls += 1;
             self.answers[row][answer.number() as usize] += 1;
+        }
+    }
+
+    /// Where the record stood before a call, and where after it.
+    fn add_record(&mut self, before: Undo, after: Undo) {
+        let full = |undo: Undo| usize::from(undo.count) == PLACES;
+        if before.next == after.next || !full(after) {
+            return;
+        }
+        match full(before) {
+            true => self.dropped += 1,
+            false => self.filled += 1,
         }
     }
 }
@@ -65,18 +81,17 @@ fn run<M: Machine>(script: &Script, calls: &[Call], tally: &mut Tally) -> Option
         other.put(start);
     }
     for (n, &call) in calls.iter().enumerate() {
+        let before = core.editing.undo;
         let answer = call.make(&mut core, &mut core_lent);
         let expected = call.make(&mut other, &mut other_lent);
         tally.add(call, answer);
+        tally.add_record(before, core.editing.undo);
         if answer != expected {
-            return Some((
-                n,
-                format!("core answers {answer:02X?}, not {expected:02X?}"),
-            ));
+            let how = format!("core answers {answer:02X?}, not {expected:02X?}");
+            return Some((n, how));
         }
-        let state = other.state();
-        if *core != state {
-            return Some((n, differ::parts(&core, &state)));
+        if let Some(how) = differ::machines(&core, &other) {
+            return Some((n, how));
         }
         if core_lent != other_lent {
             return Some((n, differ::first_byte(&core_lent, &other_lent)));
@@ -142,6 +157,10 @@ impl fmt::Display for Tally {
             }
             writeln!(f)?;
         }
-        Ok(())
+        let (filled, dropped) = (self.filled, self.dropped);
+        writeln!(
+            f,
+            "the record was filled {filled} times and dropped {dropped} writes"
+        )
     }
 }

@@ -2,14 +2,20 @@
 //! readings that document 01 has seen go astray are among them.
 
 mod drawing;
+mod export;
 mod interrupts;
 mod line;
 mod listing;
 mod page;
 mod ports;
 mod sound;
+mod undo;
 
 pub use drawing::{HighestSpriteFirst, ModeThreeDrawn, ScrollOf3Bits};
+pub use export::{
+    ExportedThoughRefused, HighAddressFirst, MagnificationAtMirror, NoPrescales, StartOneWordBack,
+    XHighAsRead,
+};
 pub use interrupts::{AlwaysCleared, LowestFirst};
 pub use line::{
     AdvanceByRcAlone, RasterInAdjust, SplitLateInAdjust, SplitOnFirstLine, SteppedThoughRefused,
@@ -27,4 +33,9 @@ pub use ports::{LockingUnmaps, LostZero, MappedAt10, UnlockedAtCd, WholeR4};
 pub use sound::{
     ControlAsNothing, EightRegisters, HighestChannelFirst, ListWithoutStop, LoopInStopWord,
     OuterCountKept, PauseOf0Counts, RepeatKTimes,
+};
+pub use undo::{
+    CapturedSplitBack, DcsrKept, EmptyFirst, EmptyServed, OtherByteToo, PixelBackBy4Bits,
+    RecordOf255, RecordThroughReset, RefusedKept, SameNotKept, UndoWhereMapped, UndoWhereUnlocked,
+    WrittenByteBack,
 };

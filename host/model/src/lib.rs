@@ -1,6 +1,5 @@
-//! A model of the Plus chip in plain Rust, written from document 01 and the
-//! requests after it alone, and what holds the proved core against those and
-//! against this model.
+//! A model of the Plus chip in plain Rust, written from documents 01 and 02
+//! alone, and what holds the proved core against these and this model.
 //!
 //! - [`chip`] is the model. It knows nothing of the core.
 //! - [`machine`] has what core and model have in common: the calls, and the

@@ -6,8 +6,9 @@ mod convert;
 
 use crate::chip::{self, Did, Kind, Model};
 use plus::listing::{self, Printed, ReadBack};
-use plus::{kind, Chip, Length, Report, State};
+use plus::{kind, Chip, Editing, Length, Report, State};
 use std::marker::PhantomData;
+use std::mem;
 
 /// Makes four things of one list of the calls, those on a chip and then those
 /// that take none: the trait of all machines, the core as such a machine, what a
@@ -26,11 +27,15 @@ macro_rules! calls {
             /// The chip after reset.
             fn new() -> Self;
 
-            /// All of its state.
+            /// All of its state but the record of page writes, which is empty here.
             fn state(&self) -> State;
 
-            /// Puts it into a state. A lock's stage is 0 to 16.
+            /// Puts it into a state. A lock's stage is 0 to 16. The record stays.
             fn put(&mut self, state: State);
+
+            /// The record, the newest write first: addresses, and what their
+            /// registers held before.
+            fn record(&self) -> Vec<(u16, u8)>;
 
             $($(#[$about])* fn $call(&mut self, $($name: $type),*) -> $answer;)*
 
@@ -43,11 +48,15 @@ macro_rules! calls {
             }
 
             fn state(&self) -> State {
-                **self
+                without_record(self)
             }
 
             fn put(&mut self, state: State) {
-                *self = Chip::from(state);
+                put_beside_record(self, state);
+            }
+
+            fn record(&self) -> Vec<(u16, u8)> {
+                Chip::record(self).collect()
             }
 
             $(fn $call(&mut self, $($name: $type),*) -> $answer {
@@ -76,11 +85,15 @@ macro_rules! calls {
             }
 
             fn state(&self) -> State {
-                *self.0
+                without_record(&self.0)
             }
 
             fn put(&mut self, state: State) {
-                self.0 = Chip::from(state);
+                put_beside_record(&mut self.0, state);
+            }
+
+            fn record(&self) -> Vec<(u16, u8)> {
+                self.0.record().collect()
             }
 
             $(fn $call(&mut self, $($name: $type),*) -> $answer {
@@ -96,6 +109,9 @@ macro_rules! calls {
 
 calls! {
     chip {
+        /// A reset.
+        fn reset() -> ();
+
         /// A byte to BCxx.
         fn write_bc(byte: u8) -> u8;
 
@@ -110,6 +126,12 @@ calls! {
 
         /// A page write.
         fn page_write(store: &mut [u8], address: u16, byte: u8) -> u8;
+
+        /// The newest page write taken back.
+        fn undo(store: &mut [u8]) -> u8;
+
+        /// The registers exported.
+        fn export(out: &mut [u8]) -> u8;
 
         /// An acknowledge: the answer and the vector.
         fn acknowledge() -> (u8, u8);
@@ -139,6 +161,23 @@ calls! {
 /// The core with a fault.
 pub struct Faulty<F>(Chip, PhantomData<F>);
 
+/// The core's state with an empty record: where that stands in its ring is no
+/// part of what a machine has to be.
+fn without_record(chip: &Chip) -> State {
+    State {
+        editing: Editing::default(),
+        ..**chip
+    }
+}
+
+/// The core in another state, with the record that it has.
+fn put_beside_record(chip: &mut Chip, state: State) {
+    **chip = State {
+        editing: chip.editing,
+        ..state
+    };
+}
+
 impl Machine for Model {
     fn new() -> Model {
         Model::new()
@@ -149,7 +188,17 @@ impl Machine for Model {
     }
 
     fn put(&mut self, state: State) {
+        let record = mem::take(&mut self.record);
         *self = Model::from(state);
+        self.record = record;
+    }
+
+    fn record(&self) -> Vec<(u16, u8)> {
+        self.record.iter().rev().copied().collect()
+    }
+
+    fn reset(&mut self) {
+        *self = Model::new();
     }
 
     fn write_bc(&mut self, byte: u8) -> u8 {
@@ -170,6 +219,14 @@ impl Machine for Model {
 
     fn page_write(&mut self, store: &mut [u8], address: u16, byte: u8) -> u8 {
         Model::page_write(self, store, address, byte)
+    }
+
+    fn undo(&mut self, store: &mut [u8]) -> u8 {
+        Model::undo(self, store)
+    }
+
+    fn export(&mut self, out: &mut [u8]) -> u8 {
+        Model::export(self, out)
     }
 
     fn acknowledge(&mut self) -> (u8, u8) {

@@ -2,7 +2,7 @@
 //! ends the test.
 
 use crate::machine::Machine;
-use plus::{answer, State, LINE, RAM, STORE, UNLOCK};
+use plus::{answer, State, EXPORT, LINE, RAM, STORE, UNLOCK};
 
 /// What follows a byte that isn't zero and a zero, in the unlock sequence.
 pub const KEY: &[u8] = UNLOCK.split_at(2).1.split_at(14).0;
@@ -71,6 +71,25 @@ pub trait UnderTest: Machine + Sized {
         let (answer, byte) = self.page_read(&[0; STORE], address, bus);
         assert_eq!(answer, answer::DONE, "{address:04X}");
         byte
+    }
+
+    /// An undo where they don't.
+    fn take_back(&mut self) {
+        assert_eq!(self.undo(&mut [0; STORE]), answer::DONE);
+    }
+
+    /// The export, over other bytes.
+    fn exported(&mut self) -> [u8; EXPORT] {
+        let mut out = [0xEE; EXPORT];
+        assert_eq!(self.export(&mut out), answer::DONE);
+        out
+    }
+
+    /// What the export says that an address holds.
+    fn holds(&mut self, address: u16) -> u8 {
+        let named = |three: &&[u8]| three[..2] == address.to_le_bytes();
+        let three = self.exported();
+        three.chunks(3).find(named).expect("a register")[2]
     }
 
     /// A 6845 register set through the ports.

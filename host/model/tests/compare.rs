@@ -13,7 +13,7 @@ fn core_is_the_model() {
         Err(difference) => panic!("{difference}"),
     };
     println!("{tally}");
-    // Each call gave each number that document 01 lets it give, and no other.
+    // Each call gave each number that documents 01 and 02 let it give, and no other.
     let numbers: [&[usize]; Call::NAMES.len()] = [
         &[0],
         &[0],
@@ -21,6 +21,8 @@ fn core_is_the_model() {
         &[0, 3],
         &[0, 1, 2],
         &[0, 1, 2, 3, 9],
+        &[0, 1, 10],
+        &[0, 1],
         &[0, 5],
         &[0, 1],
         &[0, 1, 6],
@@ -35,6 +37,9 @@ fn core_is_the_model() {
             }
         }
     }
+    // The record was full many times, and went on.
+    assert!(tally.filled >= 1_000, "{}", tally.filled);
+    assert!(tally.dropped >= 50_000, "{}", tally.dropped);
 }
 
 /// The fault is seen, and the calls that the report calls enough end in the one
@@ -69,12 +74,17 @@ macro_rules! caught {
 }
 
 caught! {
+    reset: RecordThroughReset;
     write_bc: LostZero, UnlockedAtCd, LockingUnmaps;
     write_bd: WholeR4;
     write_7f: MappedAt10;
     page_read: HighByteOfBits, LengthLast;
     page_write: WholePixel, NoMirrors, OneKindOfNothing, PauseEndedByStart,
-        PauseRestartedByDisable;
+        PauseRestartedByDisable, DcsrKept, RefusedKept, SameNotKept, RecordOf255;
+    undo: WrittenByteBack, PixelBackBy4Bits, OtherByteToo, CapturedSplitBack, EmptyServed,
+        EmptyFirst, UndoWhereMapped, UndoWhereUnlocked;
+    export: XHighAsRead, MagnificationAtMirror, HighAddressFirst, StartOneWordBack, NoPrescales,
+        ExportedThoughRefused;
     acknowledge: LowestFirst, AlwaysCleared;
     step: SteppedThoughRefused, RasterInAdjust, SplitLateInAdjust, SplitOnFirstLine,
         AdvanceByRcAlone, RepeatKTimes, OuterCountKept, EightRegisters, HighestChannelFirst,
@@ -88,6 +98,13 @@ caught! {
 fn a_byte_that_differs_is_named() {
     let difference = compare::<Faulty<fault::WholePixel>>(1_000_000, 1).unwrap_err();
     assert!(difference.how.contains("of the store"), "{difference}");
+}
+
+/// So does one in the record alone.
+#[test]
+fn an_entry_that_differs_is_named() {
+    let difference = compare::<Faulty<fault::DcsrKept>>(1_000_000, 1).unwrap_err();
+    assert!(difference.how.contains("of the record"), "{difference}");
 }
 
 #[test]

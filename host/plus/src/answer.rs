@@ -3,8 +3,8 @@
 /// The call was served.
 pub const DONE: u8 = 0;
 
-/// A lent buffer has the wrong length: page read and write, line step, drawing,
-/// forecast.
+/// A lent buffer has the wrong length: page read and write, undo, export, line
+/// step, drawing, forecast.
 pub const WRONG_LENGTH: u8 = 1;
 
 /// The address is not of the page, or the page is not mapped: page read and
@@ -32,3 +32,6 @@ pub const TOO_SMALL: u8 = 8;
 
 /// A converter is there, 6808h to 680Fh, which can only be read: page write.
 pub const CONVERTER_THERE: u8 = 9;
+
+/// No page write is left to take back: undo.
+pub const NOTHING_TO_UNDO: u8 = 10;

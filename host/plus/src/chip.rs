@@ -1,17 +1,15 @@
 //! A chip, and the calls on it.
 
 use crate::ffi;
-use crate::State;
+use crate::state::{Aligned, State, Undo};
+use crate::PLACES;
 use std::ops::{Deref, DerefMut};
 
-/// A chip. Its fields are those of [`State`].
-///
-/// It stands at a whole word, so that it is copied by words where the C
-/// convention passes it on the stack.
-#[repr(C, align(8))]
-#[derive(Clone, Copy, Debug, PartialEq, Eq)]
+/// A chip, and its record of page writes. Its fields are those of [`State`].
+#[derive(Clone, Debug)]
 pub struct Chip {
-    state: State,
+    state: Aligned,
+    places: [u32; PLACES],
 }
 
 /// What a line step tells.
@@ -31,60 +29,95 @@ impl Chip {
     /// The chip after reset.
     pub fn new() -> Chip {
         let state = unsafe { ffi::plus_reset() };
-        Chip { state }
+        Chip {
+            state: Aligned(state),
+            places: [0; PLACES],
+        }
+    }
+
+    /// Resets it, which leaves nothing to undo.
+    pub fn reset(&mut self) {
+        **self = unsafe { ffi::plus_reset() };
     }
 
     fn answered(&mut self, answered: ffi::Answered) -> u8 {
-        self.state = answered.chip;
+        **self = answered.chip;
         answered.answer
     }
 
     /// A byte to port BCxx: selects a 6845 register and feeds the lock.
     /// Answers 0.
     pub fn write_bc(&mut self, byte: u8) -> u8 {
-        self.answered(unsafe { ffi::plus_write_bc(*self, byte) })
+        self.answered(unsafe { ffi::plus_write_bc(self.state, byte) })
     }
 
     /// A data byte to the selected 6845 register. Answers 0 or 3.
     pub fn write_bd(&mut self, byte: u8) -> u8 {
-        self.answered(unsafe { ffi::plus_write_bd(*self, byte) })
+        self.answered(unsafe { ffi::plus_write_bd(self.state, byte) })
     }
 
     /// A byte to port 7Fxx: maps the page in or out, or sets the mode. Answers
     /// 0 or 3.
     pub fn write_7f(&mut self, byte: u8) -> u8 {
-        self.answered(unsafe { ffi::plus_write_7f(*self, byte) })
+        self.answered(unsafe { ffi::plus_write_7f(self.state, byte) })
     }
 
     /// Reads the register page: the answer, 0, 1 or 2, and the byte, which is
     /// `bus` where nothing can be read.
     pub fn page_read(&mut self, store: &[u8], address: u16, bus: u8) -> (u8, u8) {
-        let read = unsafe { ffi::plus_page_read(*self, store.as_ptr(), store.len(), address, bus) };
-        self.state = read.chip;
+        let read =
+            unsafe { ffi::plus_page_read(self.state, store.as_ptr(), store.len(), address, bus) };
+        **self = read.chip;
         (read.answer, read.byte)
     }
 
-    /// Writes the register page; a pixel goes into the store. Answers 0, 1, 2,
-    /// 3 or 9.
+    /// Writes the register page; a pixel goes into the store. A write that is
+    /// served, but to DCSR, can be undone. Answers 0, 1, 2, 3 or 9.
     pub fn page_write(&mut self, store: &mut [u8], address: u16, byte: u8) -> u8 {
-        self.answered(unsafe {
-            ffi::plus_page_write(*self, store.as_mut_ptr(), store.len(), address, byte)
+        let (store, length, places) = (store.as_mut_ptr(), store.len(), &mut self.places);
+        let written =
+            unsafe { ffi::plus_page_write(self.state, store, length, places, address, byte) };
+        self.answered(written)
+    }
+
+    /// Takes back the newest page write that is left: its register, or the pixel
+    /// in the store, gets the contents it had before. Served whether or not the
+    /// page is mapped and the chip unlocked. Answers 0, 1 or 10.
+    pub fn undo(&mut self, store: &mut [u8]) -> u8 {
+        let (store, length) = (store.as_mut_ptr(), store.len());
+        self.answered(unsafe { ffi::plus_undo(self.state, store, length, &self.places) })
+    }
+
+    /// The page writes that can be undone, the newest first and at most
+    /// [`PLACES`]: the address of each, and its register's contents before.
+    pub fn record(&self) -> impl Iterator<Item = (u16, u8)> + '_ {
+        let Undo { next, count } = self.editing.undo;
+        (1..=count.min(PLACES as u16)).map(move |back| {
+            let entry = self.places[usize::from(next.wrapping_sub(back as u8))];
+            ((entry >> 8) as u16, entry as u8)
         })
+    }
+
+    /// Exports the registers of the page but the pixels and DCSR: of each, by
+    /// rising address, three bytes of `out` become its address, low byte first,
+    /// and its contents. Answers 0 or 1.
+    pub fn export(&self, out: &mut [u8]) -> u8 {
+        unsafe { ffi::plus_export(self.state, out.as_mut_ptr(), out.len()) }
     }
 
     /// Serves the interrupt that comes first: the answer, 0 or 5, and the
     /// vector.
     pub fn acknowledge(&mut self) -> (u8, u8) {
-        let acknowledged = unsafe { ffi::plus_acknowledge(*self) };
-        self.state = acknowledged.chip;
+        let acknowledged = unsafe { ffi::plus_acknowledge(self.state) };
+        **self = acknowledged.chip;
         (acknowledged.answer, acknowledged.vector)
     }
 
     /// One line: sound, raster compare, split compare, counters. The answer, 0
     /// or 1, and what the line did.
     pub fn step(&mut self, ram: &[u8]) -> (u8, Report) {
-        let stepped = unsafe { ffi::plus_step(*self, ram.as_ptr(), ram.len()) };
-        self.state = stepped.chip;
+        let stepped = unsafe { ffi::plus_step(self.state, ram.as_ptr(), ram.len()) };
+        **self = stepped.chip;
         let report = Report {
             cycles: stepped.cycles,
             kinds: stepped.kinds,
@@ -98,7 +131,7 @@ impl Chip {
     pub fn draw(&self, ram: &[u8], store: &[u8], line: &mut [u8]) -> u8 {
         unsafe {
             ffi::plus_draw(
-                *self,
+                self.state,
                 ram.as_ptr(),
                 ram.len(),
                 store.as_ptr(),
@@ -110,23 +143,17 @@ impl Chip {
     }
 }
 
-impl From<State> for Chip {
-    fn from(state: State) -> Chip {
-        Chip { state }
-    }
-}
-
 impl Deref for Chip {
     type Target = State;
 
     fn deref(&self) -> &State {
-        &self.state
+        &self.state.0
     }
 }
 
 impl DerefMut for Chip {
     fn deref_mut(&mut self) -> &mut State {
-        &mut self.state
+        &mut self.state.0
     }
 }
 

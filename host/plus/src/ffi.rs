@@ -1,7 +1,8 @@
 //! `include/plus.h` in Rust: the calls as the library exports them.
 
 use crate::listing::{Printed, ReadBack};
-use crate::{Chip, Length, State};
+use crate::state::Aligned;
+use crate::{Length, State, PLACES};
 
 #[repr(C)]
 pub(crate) struct Answered {
@@ -32,29 +33,37 @@ pub(crate) struct Stepped {
     pub lows: [u16; 3],
 }
 
-// `Chip` has the layout of `State` but for its alignment, and goes in its place
-// where the C convention copies it to the stack.
+// `Aligned` has the layout of `State` but for its alignment, and goes in its
+// place where the C convention copies it to the stack.
 extern "C" {
     pub(crate) fn plus_reset() -> State;
-    pub(crate) fn plus_write_bc(chip: Chip, byte: u8) -> Answered;
-    pub(crate) fn plus_write_bd(chip: Chip, byte: u8) -> Answered;
-    pub(crate) fn plus_write_7f(chip: Chip, byte: u8) -> Answered;
+    pub(crate) fn plus_write_bc(chip: Aligned, byte: u8) -> Answered;
+    pub(crate) fn plus_write_bd(chip: Aligned, byte: u8) -> Answered;
+    pub(crate) fn plus_write_7f(chip: Aligned, byte: u8) -> Answered;
     pub(crate) fn plus_page_read(
-        chip: Chip,
+        chip: Aligned,
         store: *const u8,
         store_length: usize,
         address: u16,
         bus: u8,
     ) -> ByteRead;
     pub(crate) fn plus_page_write(
-        chip: Chip,
+        chip: Aligned,
         store: *mut u8,
         store_length: usize,
+        places: &mut [u32; PLACES],
         address: u16,
         byte: u8,
     ) -> Answered;
-    pub(crate) fn plus_acknowledge(chip: Chip) -> Acknowledged;
-    pub(crate) fn plus_step(chip: Chip, ram: *const u8, ram_length: usize) -> Stepped;
+    pub(crate) fn plus_undo(
+        chip: Aligned,
+        store: *mut u8,
+        store_length: usize,
+        places: &[u32; PLACES],
+    ) -> Answered;
+    pub(crate) fn plus_export(chip: Aligned, out: *mut u8, out_length: usize) -> u8;
+    pub(crate) fn plus_acknowledge(chip: Aligned) -> Acknowledged;
+    pub(crate) fn plus_step(chip: Aligned, ram: *const u8, ram_length: usize) -> Stepped;
     pub(crate) fn plus_forecast(
         ram: *const u8,
         ram_length: usize,
@@ -75,7 +84,7 @@ extern "C" {
         words_length: usize,
     ) -> ReadBack;
     pub(crate) fn plus_draw(
-        chip: Chip,
+        chip: Aligned,
         ram: *const u8,
         ram_length: usize,
         store: *const u8,

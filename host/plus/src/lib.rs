@@ -1,10 +1,11 @@
 //! The proved core of the Amstrad Plus chip, from Rust: a safe wrapper over
 //! `libplus.a`, whose C interface is `include/plus.h`.
 //!
-//! A [`Chip`] is the whole state of one chip, held by value; the library keeps
-//! nothing between calls. A host lends each call the buffers it needs: RAM of
-//! [`RAM`] bytes, the sprite pixel store of [`STORE`] bytes, and a line of
-//! [`LINE`] bytes to draw into. Every call answers one of the numbers in
+//! A [`Chip`] is the whole state of one chip, held by value, with the record of
+//! page writes that can be undone; the library keeps nothing between calls. A
+//! host lends each call the buffers it needs: RAM of [`RAM`] bytes, the sprite
+//! pixel store of [`STORE`] bytes, a line of [`LINE`] bytes to draw into, and
+//! [`EXPORT`] bytes for an export. Every call answers one of the numbers in
 //! [`answer`]. With any other than [`answer::DONE`] the call was refused: chip
 //! and buffers are as they were, and all else in the answer is 0, but for the
 //! number of a bad line.
@@ -34,6 +35,24 @@
 //! }
 //! assert_eq!(chip.page_read(&store, 0x6C0F, 0), (answer::DONE, 0)); // and off again
 //! ```
+//!
+//! A prescale changed, undone and exported. The export ends with the registers of
+//! channel 2, and 6C0Ah is its prescale:
+//!
+//! ```
+//! # use plus::{answer, Chip, EXPORT, STORE, UNLOCK};
+//! # let (mut chip, mut store) = (Chip::new(), vec![0; STORE]);
+//! # UNLOCK.map(|byte| chip.write_bc(byte));
+//! # chip.write_7f(0xB8);
+//! for prescale in [3, 5] {
+//!     assert_eq!(chip.page_write(&mut store, 0x6C0A, prescale), answer::DONE);
+//! }
+//! assert!(chip.record().eq([(0x6C0A, 3), (0x6C0A, 0)])); // what each took the place of
+//! assert_eq!(chip.undo(&mut store), answer::DONE);
+//! let mut out = [0; EXPORT];
+//! assert_eq!(chip.export(&mut out), answer::DONE);
+//! assert!(out.ends_with(&[0x0A, 0x6C, 3]));
+//! ```
 
 #![warn(missing_docs)]
 
@@ -50,7 +69,8 @@ pub use chip::{Chip, Report};
 pub use forecast::{forecast, Length};
 pub use palette::grey;
 pub use state::{
-    Channel, Counters, Crtc, Gate, Interrupts, Lock, Registers, Sound, Sprite, State, Video,
+    Channel, Counters, Crtc, Editing, Gate, Interrupts, Lock, Registers, Sound, Sprite, State,
+    Undo, Video,
 };
 
 /// How many bytes of RAM a host lends.
@@ -61,6 +81,12 @@ pub const STORE: usize = 4_096;
 
 /// How many bytes a drawn line has, each the number of a palette entry.
 pub const LINE: usize = 640;
+
+/// How many bytes an export has: three for each of 159 registers.
+pub const EXPORT: usize = 477;
+
+/// How many page writes can be undone.
+pub const PLACES: usize = 256;
 
 /// Bytes that unlock a chip, written to BCxx one after the other. Any byte but
 /// zero does for the first, and any at all for the last.

@@ -147,6 +147,24 @@ pub struct Interrupts {
     pub ivr: u8,
 }
 
+/// Where the record of page writes that can be undone stands among its places.
+#[repr(C)]
+#[derive(Clone, Copy, Debug, Default, PartialEq, Eq)]
+pub struct Undo {
+    /// The place that the next write goes to.
+    pub next: u8,
+    /// How many writes can be undone, 0 to 256.
+    pub count: u16,
+}
+
+/// What is kept for those who edit.
+#[repr(C)]
+#[derive(Clone, Copy, Debug, Default, PartialEq, Eq)]
+pub struct Editing {
+    /// The record of page writes.
+    pub undo: Undo,
+}
+
 /// The whole state.
 #[repr(C)]
 #[derive(Clone, Copy, Debug, PartialEq, Eq)]
@@ -167,4 +185,12 @@ pub struct State {
     pub sound: Sound,
     /// Interrupts.
     pub interrupts: Interrupts,
+    /// The record of page writes, but for its places.
+    pub editing: Editing,
 }
+
+/// A state that stands at a whole word, so that it is copied by words where the
+/// C convention passes it on the stack.
+#[repr(C, align(8))]
+#[derive(Clone, Copy, Debug)]
+pub(crate) struct Aligned(pub State);

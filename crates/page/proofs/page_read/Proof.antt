@@ -4,7 +4,6 @@ use lib.ListN.{length}
 use borrow.Author.Needs.{needs}
 use borrow.Author.Tests.{ne-eqb}
 use Rattle.page.specs.Page.{readAnswer}
-use Rattle.page.proofs.PageAnswers.{read-length}
 use Rattle.page.proofs.page_read.Statement.{statement}
 use Rattle.page.proofs.page_read.Tie as tie
 
@@ -28,7 +27,7 @@ register-at-requires : tie.Need-register-at-requires
 register-at-requires c κs = search needs
 
 register-read-requires : tie.Need-register-read-requires
-register-read-requires c κs = (c .register-at .ensures .within, read-length _ _ _ 0 (served (c .before)))
+register-read-requires c κs = search needs
 
 returns-2 : tie.Need-returns-2
 returns-2 c =
@@ -36,7 +35,7 @@ returns-2 c =
     record {
       answer = sym zero;
       chip = refl;
-      byte = simp (c .register-read .ensures, c .before .register-at .ensures .register, zero);
+      byte = simp (c .register-read .ensures, c .before .register-at .ensures, zero);
     }
 
 pub page-read-spec : {M : Type 1} → statement M

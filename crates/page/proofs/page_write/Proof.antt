@@ -1,43 +1,19 @@
--- `page::page_write`: a refusal changes nothing; a pixel goes into the store, any other register into the chip.
-use mathlib.Core.Path.{_≡_, refl, sym, _∙_}
-use mathlib.Core.List.{List, [], _∷_}
-use Prim.Native.Nat.{ℕ, _<_}
+-- `page::page_write`: refused by the answer, else recorded and put.
+use mathlib.Core.Path.{_≡_}
 use lib.ListN.{length}
+use denote.Ref.{now}
+use Rattle.page.specs.Page.{writeAnswer}
+use Rattle.page.proofs.Ways.{write-refused, write-served}
 use borrow.Author.Needs.{needs}
-use borrow.Author.Tests.{ne-eqb}
-use types.Run.{OneOf, miss}
-use denote.Enum.Declared.{tagOf}
-use Rattle.page.specs.declared.address.Register.{Register}
-use Rattle.page.specs.declared.address.Register.the-variants.{Pixel, Sprite, Palette, Video, Ivr, Converter, Channel, Dcsr, Status, Empty}
-use Rattle.page.specs.Page.{writeAnswer, storeWritten}
-use Rattle.page.proofs.PageAnswers.{served-length}
-use Rattle.page.proofs.address.Register.{the-type}
 use Rattle.page.proofs.page_write.Statement.{statement}
 use Rattle.page.proofs.page_write.Tie as tie
-
--- the variants after `Pixel`, by their numbers
-abbrev others : List ℕ
-others = 1 ∷ 2 ∷ 3 ∷ 4 ∷ 5 ∷ 6 ∷ 7 ∷ 8 ∷ 9 ∷ []
-
--- a register that is no pixel leaves the store
-store-kept : (store : List ℕ) (x : Register) (b : ℕ) → OneOf others (tagOf the-type x) → storeWritten store x b ≡ store
-store-kept store (Pixel i) b h = absurd (miss others 0 tt h)
-store-kept store (Sprite n p) b h = refl
-store-kept store (Palette i) b h = refl
-store-kept store (Video v) b h = refl
-store-kept store Ivr b h = refl
-store-kept store Converter b h = refl
-store-kept store (Channel n r) b h = refl
-store-kept store Dcsr b h = refl
-store-kept store Status b h = refl
-store-kept store Empty b h = refl
 
 -- the answer is that of the register which stands at the address
 number : (c : tie.After-write-answer) →
     c .write-answer .result
     ≡ writeAnswer (c .before .before .before .args .chip) (length (c .before .before .before .args .store .now)) (c .before .before .before .args .address)
 unfolding writeAnswer
-number c = simp (c .write-answer .ensures, c .before .register-at .ensures .register)
+number c = simp (c .write-answer .ensures, c .before .register-at .ensures)
 
 register-at-requires : tie.Need-register-at-requires
 register-at-requires c κs = search needs
@@ -47,53 +23,40 @@ write-answer-requires c κs = search needs
 
 returns : tie.Need-returns
 returns c =
-    let refused = ne-eqb _ _ (rw (number (c .before)) at (c .if1 .taken)) in
-    record {
-      call = record { answer = number (c .before); chip = simp refused };
-      store-after = simp refused;
-    }
+    let args = c .before .before .before .before .args in
+    write-refused (args .chip) (args .store .now) (now (args .places)) (args .address) (args .byte) (number (c .before)) (c .if1 .taken)
 
-enum-known-register : tie.Need-enum-known-register
-enum-known-register c = search needs
+contents-of-requires : tie.Need-contents-of-requires
+contents-of-requires c κs = search needs
 
-slice-write-store : tie.Need-slice-write-store
-slice-write-store c =
-    let wrote = c .before .before .before .before in
-    let told = c .before .register .given in
-    let h : told .0 .0 < 4096 = rw (told .1) at (wrote .before .register-at .ensures .within) in
-    rw (served-length _ _ _ _ (sym (wrote .write-answer .ensures) ∙ c .before .before .before .if1 .left)) h
+mul-entry : tie.Need-mul-entry
+mul-entry c = search needs
+
+cast-entry : tie.Need-cast-entry
+cast-entry c = search needs
+
+add-entry : tie.Need-add-entry
+add-entry c = search needs
+
+kept-requires : tie.Need-kept-requires
+kept-requires c κs = search needs
+
+put-requires : tie.Need-put-requires
+put-requires c κs = search needs
 
 same-length : tie.Need-same-length
 same-length c = search needs
 
 returns-2 : tie.Need-returns-2
 returns-2 c =
-    let wrote = c .before .before .before .before in
-    let zero = sym (number wrote) ∙ c .before .before .before .if1 .left in
-    let at = sym (wrote .before .register-at .ensures .register) ∙ c .before .register .given .1 in
-    record {
-      call = record { answer = sym zero; chip = simp (zero, at) };
-      store-after = simp (zero, at);
-    }
-
-register-written-requires : tie.Need-register-written-requires
-register-written-requires c κs = search needs
-
-returns-3 : tie.Need-returns-3
-returns-3 c =
-    let wrote = c .before .before .before in
-    let zero = sym (number wrote) ∙ c .before .before .if1 .left in
-    let decoded = wrote .before .register-at in
+    let put = c .before .before in
+    let keep = put .before .before in
+    let held = keep .before .before in
+    let wrote = held .before .before .before in
     let args = wrote .before .before .before .args in
-    record {
-      call = record { answer = sym zero; chip = simp (zero, c .register-written .ensures, decoded .ensures .register) };
-      store-after =
-          simp (
-            zero,
-            ← decoded .ensures .register,
-            store-kept (args .store .now) (decoded .result) (args .byte) (c .before .match .keys2),
-          );
-    }
+    write-served (args .chip) (args .store .now) (now (args .places)) (args .address) (args .byte) (number wrote)
+    (held .before .before .if1 .left) (wrote .before .register-at .ensures) (held .contents-of .ensures) (held .contents-of .ok)
+    (keep .kept .ensures) (put .put .ensures)
 
 pub page-write-spec : {M : Type 1} → statement M
 page-write-spec =
@@ -102,9 +65,11 @@ page-write-spec =
     register-at-requires
     write-answer-requires
     returns
-    enum-known-register
-    slice-write-store
+    contents-of-requires
+    mul-entry
+    cast-entry
+    add-entry
+    kept-requires
+    put-requires
     same-length
-    returns-2
-    register-written-requires
-    returns-3)
+    returns-2)

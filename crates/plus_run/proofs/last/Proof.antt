@@ -2,7 +2,7 @@
 use mathlib.Core.Path.{refl, ap}
 use native.Mathlib.Omega.{arith}
 use borrow.Author.Needs.{needs}
-use Rattle.plus_run.specs.declared.calls.Machine.{Machine}
+use Rattle.calls.specs.declared.Machine.{Machine}
 use Rattle.plus_run.proofs.last.Statement.{statement}
 use Rattle.plus_run.proofs.last.Tie as tie
 

@@ -5,17 +5,17 @@ use native.Mathlib.Omega.{arith}
 use borrow.Author.Needs.{needs}
 use lib.ListN.{length}
 use Rattle.plus_run.specs.Blocks.{Ready, stateOf, played}
-use Rattle.plus_run.proofs.Serving.{played-more}
+use Rattle.plus_run.proofs.Playing.{played-more}
 use Rattle.plus_run.proofs.records.Statement.{statement}
 use Rattle.plus_run.proofs.records.Tie as tie
 
 abbrev Inv-loop : tie.InvT-loop
-Inv-loop ram₀ store₀ out₀ block whole machine₀ k₀ ram store out machine k =
+Inv-loop ram₀ store₀ places₀ out₀ block whole machine₀ k₀ ram store places out machine k =
     (Ready machine ram out) × (length ram ≡ length ram₀) × (length store ≡ length store₀) × (length out ≡ length out₀) × (k ≤ whole) ×
-    (stateOf machine ram store ≡ played (stateOf machine₀ ram₀ store₀) block k)
+    (stateOf machine ram store places ≡ played (stateOf machine₀ ram₀ store₀ places₀) block k)
 
 abbrev μ-loop : tie.MeasureT-loop
-μ-loop ram₀ store₀ out₀ block whole machine₀ k₀ ram store out machine k = whole - k
+μ-loop ram₀ store₀ places₀ out₀ block whole machine₀ k₀ ram store places out machine k = whole - k
 
 loop-holds : tie.Need-loop-holds Inv-loop μ-loop
 unfolding played
@@ -28,14 +28,14 @@ turn-requires : tie.Need-turn-requires Inv-loop μ-loop
 turn-requires c κs = search needs
 
 add-k : tie.Need-add-k Inv-loop μ-loop
-add-k c = omega (arith, c .before .before .before .before .before .before .before .before .before .before .before .before .before .before .before .before .good .1 .1 .1 .1 .0 .0)
+add-k c = omega (arith, c .before .before .before .before .before .before .before .before .before .before .before .before .before .before .before .before .before .good .1 .1 .1 .1 .1 .0 .0)
 
 loop-less : tie.Need-loop-less Inv-loop μ-loop
 loop-less c = search needs
 
 loop-again : tie.Need-loop-again Inv-loop μ-loop
 loop-again c =
-    let l = c .before .before .before .before .before .before .before .before .before .before .before .loop in (
+    let l = c .before .before .before .before .before .before .before .before .before .before .before .before .loop in (
       search needs,
       search needs,
       search needs,

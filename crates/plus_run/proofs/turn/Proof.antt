@@ -1,7 +1,7 @@
 -- The line fits, and no buffer changes its length.
 use native.Mathlib.Omega.{arith}
 use borrow.Author.Needs.{needs}
-use Rattle.plus_run.specs.Blocks.{after}
+use Rattle.plus_run.proofs.Playing.{served-record}
 use Rattle.plus_run.proofs.turn.Statement.{statement}
 use Rattle.plus_run.proofs.turn.Tie as tie
 
@@ -24,26 +24,17 @@ same-length-3 : tie.Need-same-length-3
 same-length-3 c = search needs
 
 returns : tie.Need-returns
-unfolding after
 returns c =
     let s = c .before .before .before .before .before .before .serve in
     let r = c .before .before .before .before .before .before .before .record-at .ensures in
-    let ready = c .before .before .before .before .before .before .before .before .before .before .before .with-room in
-    let start = c .before .before .before .before .before .before .before .before .before .before .before .before .before .before .before .before .before in (
+    let ready = c .before .before .before .before .before .before .before .before .before .before .before .before .with-room in
+    let start = c .before .before .before .before .before .before .before .before .before .before .before .before .before .before .before .before .before .before in (
       record {
-        within = omega (arith, s .ensures .told .bound, ready .ensures .room, s .kept .1 .1 .1 .0);
-        buffer = omega (arith, s .kept .1 .1 .1 .0, start .pre .0 .buffer);
+        within = omega (arith, s .ensures .told .bound, ready .ensures .room, s .kept .1 .1 .1 .1 .0);
+        buffer = omega (arith, s .kept .1 .1 .1 .1 .0, start .pre .0 .buffer);
         memory = omega (arith, s .kept .1 .0, start .pre .0 .memory);
       },
-      simp (
-        s .ensures .told .chip,
-        s .ensures .ram-after,
-        s .ensures .store-after,
-        ready .ensures .chip,
-        r .letter,
-        r .place,
-        r .byte,
-      ),
+      served-record (ready .ensures .chip) r (s .ensures),
     )
 
 pub turn-spec : {M : Type 1} → statement M

@@ -1,16 +1,13 @@
 //! `plus frame FILE OUT.png`.
 
-use super::{contents, Command};
+use super::{played, write, Command};
 use crate::failure::Failure;
 use crate::frame::next_frame;
 use crate::output::Output;
-use crate::player::Player;
 use crate::png;
-use crate::scene::{self, Short};
 use crate::Done;
 use plus::LINE;
 use std::ffi::OsString;
-use std::fs;
 use std::path::Path;
 
 pub const COMMAND: Command = Command {
@@ -27,24 +24,10 @@ picture's width and height. A chip in mode 3 is refused (4).",
 
 fn run(arguments: &[OsString], output: &mut Output) -> Done {
     let (input, picture) = (Path::new(&arguments[0]), Path::new(&arguments[1]));
-    let file = contents(input)?;
-    let mut player = played(&file).map_err(|short| Failure::Short {
-        path: input.to_owned(),
-        short,
-    })?;
-    let rows = next_frame(&mut player).map_err(|number| {
+    let rows = next_frame(&mut played(input)?).map_err(|number| {
         let meaning = format!("{} leads to screen mode 3", input.display());
         Failure::refused(number, meaning)
     })?;
-    fs::write(picture, png::encode(LINE, &rows)).map_err(Failure::file(picture))?;
+    write(picture, png::encode(LINE, &rows))?;
     output.line(format_args!("{LINE} x {}", rows.len()))
-}
-
-/// A scene after its last record.
-fn played(file: &[u8]) -> Result<Player, Short> {
-    let (mut player, records) = scene::open(file)?;
-    for record in records {
-        player.play(record?);
-    }
-    Ok(player)
 }

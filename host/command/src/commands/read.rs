@@ -1,13 +1,12 @@
 //! `plus read TEXT OUT`.
 
-use super::{contents, Command};
+use super::{contents, write, Command};
 use crate::failure::Failure;
 use crate::output::Output;
 use crate::Done;
 use plus::answer;
 use plus::listing::{words_of, BadLine};
 use std::ffi::OsString;
-use std::fs;
 use std::path::Path;
 
 pub const COMMAND: Command = Command {
@@ -32,7 +31,7 @@ fn run(arguments: &[OsString], output: &mut Output) -> Done {
     let (text, out) = (Path::new(&arguments[0]), Path::new(&arguments[1]));
     let words = words_of(&contents(text)?).map_err(|bad| refused(bad, text))?;
     let bytes: Vec<u8> = words.iter().flat_map(|word| word.to_le_bytes()).collect();
-    fs::write(out, bytes).map_err(Failure::file(out))?;
+    write(out, bytes)?;
     output.line(format_args!("words {}", words.len()))
 }
 

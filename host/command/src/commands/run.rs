@@ -22,6 +22,8 @@ that its call answered; a refusal there is part of the run.
   B D G  value to BCxx, the 6845's data port, 7Fxx
   W      value to the page at the address
   R      reads the page, value on the bus: and the byte
+  U      undoes the newest write to the page that is left
+  E      exports the registers: and 477 bytes, two digits each
   A      acknowledges: and the vector
   L      steps a line: the cycles, and for each channel - or kind and low bits
   P      draws the line: an entry a character, 0 to 9 and a to v

@@ -1,6 +1,7 @@
 //! The commands as a person uses them: the built program on real files, what it
 //! prints, what it says on standard error, and its exit status.
 
+mod export;
 mod forecast;
 mod frame;
 mod install;

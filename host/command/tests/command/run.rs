@@ -1,6 +1,6 @@
 //! `plus run`.
 
-use crate::tools::{command, plus, repository, Folder, Ran, Scene};
+use crate::tools::{command, exported, hexadecimal, plus, repository, Folder, Ran, Scene};
 use plus::{RAM, STORE, UNLOCK};
 use std::fs::{self, File};
 use std::io;
@@ -45,6 +45,8 @@ fn each_letter() {
         .record('G', 0, 0xB8)
         .record('W', 0x6C09, 0x80)
         .record('W', 0x6C0F, 0x04)
+        .record('W', 0x6800, 0x64)
+        .record('U', 0x6C09, 0x12)
         .record('R', 0x6800, 0x12)
         .each('L', &[0, 0])
         // INT in the place of STOP.
@@ -55,20 +57,27 @@ fn each_letter() {
         .record('P', 0, 0)
         .record('G', 0, 0x83)
         .record('P', 0, 0)
+        .record('E', 0x6C09, 0x12)
         .record('x', 0, 0)
         .record('Z', 0, 0)
+        .record('U', 0, 0)
         .record('R', 0x6000, 0x12);
     let lines = [
         &["0 8 13 6", "5 0", "3", "2 0"][..],
         &["0"; 17],
         // The last byte, EEh, has selected register 14.
-        &["3", "0", "0", "0", "0 18"],
+        &["3", "0", "0", "0", "0", "0", "0 18"],
         &["0 10 - - load 1848", "0 3 - - pause 2", "0"],
         &["0 1 - - -", "0 3 - - control 16"],
         // IVR 01h: the vector 0, and the interrupt stays.
         &["0 0", "0 20"],
         &[&format!("0 {}", "g".repeat(640)), "0", "4"],
-        &["bad", "0", "2 0"],
+        // IVR, and channel 2 behind its three words.
+        &[&format!(
+            "0 {}",
+            hexadecimal(&exported(&[(0x6805, 1), (0x6C08, 6), (0x6C09, 0x80)]))
+        )],
+        &["bad", "0", "10", "2 0"],
     ];
     let folder = Folder::new();
     let file = folder.file("each.scene", &scene.bytes());

@@ -134,3 +134,21 @@ impl Scene {
         [&self.ram[..], &self.store, &self.records].concat()
     }
 }
+
+/// An export in which some registers hold something, and the others 0.
+pub fn exported(held: &[(u16, u8)]) -> Vec<u8> {
+    let sprites = (0x6000..0x6080).filter(|address| address % 8 < 5);
+    let channels = (0x6C00..0x6C0C).filter(|address| address % 4 < 3);
+    let blocks = sprites.chain(0x6400..0x6440).chain(0x6800..0x6806);
+    let three = |address: u16| {
+        let [low, high] = address.to_le_bytes();
+        let found = held.iter().find(|(at, _)| *at == address);
+        [low, high, found.map_or(0, |(_, byte)| *byte)]
+    };
+    blocks.chain(channels).flat_map(three).collect()
+}
+
+/// Two digits a byte.
+pub fn hexadecimal(bytes: &[u8]) -> String {
+    bytes.iter().map(|byte| format!("{byte:02x}")).collect()
+}

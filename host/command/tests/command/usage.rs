@@ -5,12 +5,13 @@ use std::ffi::OsStr;
 use std::os::unix::ffi::OsStrExt;
 
 /// Each command with its arguments.
-const COMMANDS: [(&str, &[&str]); 6] = [
+const COMMANDS: [(&str, &[&str]); 7] = [
     ("forecast", &["FILE"]),
     ("list", &["FILE", "[START]"]),
     ("read", &["TEXT", "OUT"]),
     ("run", &["FILE"]),
     ("frame", &["FILE", "OUT.png"]),
+    ("export", &["FILE", "OUT"]),
     ("install", &["PREFIX"]),
 ];
 
@@ -22,6 +23,7 @@ usage: plus COMMAND ...
   read TEXT OUT        the words of such a text, put into a file
   run FILE             what each record of a scene answers
   frame FILE OUT.png   a picture of the frame that a scene leads to
+  export FILE OUT      what the registers hold at the end of a scene
   install PREFIX       header, library, pkg-config file and this program
   help [COMMAND]       this, or all about one command
 ";

@@ -8,7 +8,7 @@ use model::chip::{self, Model};
 use model::random::{mixed_word, Random};
 use model::under_test::UnderTest;
 use plus::listing::{self, LONGEST_LINE};
-use plus::{Chip, LINE, RAM, STORE};
+use plus::{Chip, EXPORT, LINE, PLACES, RAM, STORE};
 use std::env;
 use std::hint::black_box;
 use std::process::ExitCode;
@@ -20,6 +20,8 @@ enum Work {
     Step,
     PageWrite,
     PageRead,
+    Undo,
+    Export,
     Draw,
     Frame,
     Forecast,
@@ -50,10 +52,12 @@ const fn case(name: &'static str, work: Work, count: usize, sprites: u16, mode: 
     }
 }
 
-const CASES: [Case; 14] = [
+const CASES: [Case; 16] = [
     case("line step", Work::Step, 100_000, 0, 1),
     case("page write", Work::PageWrite, 100_000, 0, 1),
     case("page read", Work::PageRead, 100_000, 0, 1),
+    case("undo", Work::Undo, 100_000, 0, 1),
+    case("export", Work::Export, 10_000, 0, 1),
     case("draw, no sprite", Work::Draw, 2_000, 0, 1),
     case("draw, no sprite, mode 0", Work::Draw, 2_000, 0, 0),
     case("draw, no sprite, mode 2", Work::Draw, 2_000, 0, 2),
@@ -77,6 +81,7 @@ struct Lent {
     ram: Vec<u8>,
     store: Vec<u8>,
     line: Vec<u8>,
+    export: Vec<u8>,
     words: Vec<u16>,
     text: Vec<u8>,
     text_room: Vec<u8>,
@@ -99,6 +104,7 @@ fn lent() -> Lent {
         ram,
         store,
         line: vec![0; LINE],
+        export: vec![0; EXPORT],
         text: listing::text_of(&words),
         text_room: vec![0; LONGEST_LINE * words.len()],
         words_room: vec![0; words.len()],
@@ -106,7 +112,8 @@ fn lent() -> Lent {
     }
 }
 
-/// 40 characters, 39 rows, the case's mode and sprites, all channels on.
+/// 40 characters, 39 rows, the case's mode and sprites, all channels on, and a
+/// full record.
 fn set_up<M: UnderTest>(case: &Case) -> M {
     let mut machine = M::open();
     machine.registers(&[(1, 40), (4, 38), (6, 39), (9, 7), (12, 0x30)]);
@@ -118,6 +125,9 @@ fn set_up<M: UnderTest>(case: &Case) -> M {
         machine.poke(0x6004 + 8 * n, 0b1111);
     }
     machine.poke(0x6C0F, 7);
+    for i in 0..PLACES as u16 {
+        machine.poke(0x6400 + i % 64, i as u8);
+    }
     machine
 }
 
@@ -142,6 +152,18 @@ macro_rules! calls_of {
                 Work::PageRead => repeat(count, |i| {
                     black_box(machine.page_read(&lent.store, 0x6400 + i as u16 % 64, 0));
                 }),
+                Work::Undo => {
+                    let full = machine.clone();
+                    repeat(count, |i| {
+                        if i % PLACES == 0 {
+                            machine = full.clone();
+                        }
+                        black_box(machine.undo(&mut lent.store));
+                    });
+                }
+                Work::Export => repeat(count, |_| {
+                    black_box(machine.export(&mut lent.export));
+                }),
                 Work::Draw => repeat(count, |_| {
                     black_box(machine.draw(&lent.ram, &lent.store, &mut lent.line));
                 }),
@@ -159,7 +181,13 @@ macro_rules! calls_of {
                     black_box($read(&lent.text, &mut lent.words_room));
                 }),
             }
-            black_box((&machine, &lent.line, &lent.text_room, &lent.words_room));
+            black_box((
+                &machine,
+                &lent.line,
+                &lent.export,
+                &lent.text_room,
+                &lent.words_room,
+            ));
             start.elapsed()
         }
     };

@@ -105,34 +105,40 @@ impl Model {
         if let Some(refusal) = self.page_refusal(store, address) {
             return refusal;
         }
+        let before = self.contents(store, address);
         let written = match address {
             0x4000..=0x4FFF => {
                 store[address as usize - 0x4000] = value & 0x0F;
                 true
             }
+            0x6808..=0x680F => return answer::CONVERTER_THERE,
+            _ => self.write_register(address, value),
+        };
+        if !written {
+            return answer::NOTHING_THERE;
+        }
+        if let Some(before) = before {
+            self.keep(address, before);
+        }
+        answer::DONE
+    }
+
+    /// A register outside the pixels; false if there is nothing to write.
+    pub(super) fn write_register(&mut self, address: u16, value: u8) -> bool {
+        match address {
             0x6000..=0x607F => {
                 let sprite = &mut self.sprites[(address as usize - 0x6000) / 8];
                 sprite.write(address % 8, value);
-                true
             }
             0x6400..=0x643F => {
                 let place = address as usize - 0x6400;
                 self.palette[place] = if place % 2 == 1 { value & 0x0F } else { value };
-                true
             }
-            0x6800..=0x6805 => {
-                self.write_video(address, value);
-                true
-            }
-            0x6808..=0x680F => return answer::CONVERTER_THERE,
-            0x6C00..=0x6C0F => self.write_sound(address - 0x6C00, value),
-            _ => false,
-        };
-        if written {
-            answer::DONE
-        } else {
-            answer::NOTHING_THERE
+            0x6800..=0x6805 => self.write_video(address, value),
+            0x6C00..=0x6C0F => return self.write_sound(address - 0x6C00, value),
+            _ => return false,
         }
+        true
     }
 
     fn write_video(&mut self, address: u16, value: u8) {

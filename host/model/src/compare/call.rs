@@ -12,6 +12,7 @@ pub struct Buffers {
     pub ram: Vec<u8>,
     pub store: Vec<u8>,
     pub line: Vec<u8>,
+    pub export: Vec<u8>,
 }
 
 /// One call. A buffer's number is the length that is lent.
@@ -30,6 +31,12 @@ pub enum Call {
         store: usize,
         address: u16,
         byte: u8,
+    },
+    Undo {
+        store: usize,
+    },
+    Export {
+        out: usize,
     },
     Acknowledge,
     Step {
@@ -77,13 +84,15 @@ impl Answer {
 }
 
 impl Call {
-    pub const NAMES: [&'static str; 10] = [
+    pub const NAMES: [&'static str; 12] = [
         "reset",
         "write_bc",
         "write_bd",
         "write_7f",
         "page_read",
         "page_write",
+        "undo",
+        "export",
         "acknowledge",
         "step",
         "forecast",
@@ -99,10 +108,12 @@ impl Call {
             Call::Write7f(_) => Some(3),
             Call::PageRead { .. } => Some(4),
             Call::PageWrite { .. } => Some(5),
-            Call::Acknowledge => Some(6),
-            Call::Step { .. } => Some(7),
-            Call::Forecast { .. } => Some(8),
-            Call::Draw { .. } => Some(9),
+            Call::Undo { .. } => Some(6),
+            Call::Export { .. } => Some(7),
+            Call::Acknowledge => Some(8),
+            Call::Step { .. } => Some(9),
+            Call::Forecast { .. } => Some(10),
+            Call::Draw { .. } => Some(11),
             Call::Ram { .. } => None,
         }
     }
@@ -111,7 +122,7 @@ impl Call {
     pub fn make<M: Machine>(self, machine: &mut M, lent: &mut Buffers) -> Answer {
         match self {
             Call::Reset => {
-                *machine = M::new();
+                machine.reset();
                 Answer::Nothing
             }
             Call::WriteBc(byte) => Answer::Number(machine.write_bc(byte)),
@@ -130,6 +141,8 @@ impl Call {
                 address,
                 byte,
             } => Answer::Number(machine.page_write(&mut lent.store[..store], address, byte)),
+            Call::Undo { store } => Answer::Number(machine.undo(&mut lent.store[..store])),
+            Call::Export { out } => Answer::Number(machine.export(&mut lent.export[..out])),
             Call::Acknowledge => {
                 let (number, vector) = machine.acknowledge();
                 Answer::Byte(number, vector)

@@ -1,10 +1,24 @@
 //! How two machines differ after a call, in words.
 
 use super::Buffers;
+use crate::machine::Machine;
 use plus::State;
 
+/// How the states or the records of two machines differ, if they do.
+pub(super) fn machines(core: &impl Machine, other: &impl Machine) -> Option<String> {
+    let (state, expected) = (core.state(), other.state());
+    if state != expected {
+        return Some(parts(&state, &expected));
+    }
+    let (record, expected) = (core.record(), other.record());
+    if record != expected {
+        return Some(first_entry(&record, &expected));
+    }
+    None
+}
+
 /// The parts of the state that differ, both ways.
-pub(super) fn parts(core: &State, expected: &State) -> String {
+fn parts(core: &State, expected: &State) -> String {
     let mut parts = String::from("the states differ:");
     macro_rules! part {
         ($($name:ident).+) => {
@@ -29,12 +43,22 @@ pub(super) fn parts(core: &State, expected: &State) -> String {
     parts
 }
 
+/// The first entry of the records that differs, counted from the newest.
+fn first_entry(core: &[(u16, u8)], expected: &[(u16, u8)]) -> String {
+    let most = core.len().max(expected.len());
+    let at = (0..most).find(|&at| core.get(at) != expected.get(at));
+    let at = at.unwrap_or(most);
+    let (entry, not) = (core.get(at), expected.get(at));
+    format!("core has {entry:02X?} at {at} of the record, not {not:02X?}")
+}
+
 /// The first byte of a buffer that differs.
 pub(super) fn first_byte(core: &Buffers, expected: &Buffers) -> String {
     let pairs = [
         ("RAM", &core.ram, &expected.ram),
         ("store", &core.store, &expected.store),
         ("line", &core.line, &expected.line),
+        ("export", &core.export, &expected.export),
     ];
     for (name, core, expected) in pairs {
         if let Some(at) = (0..core.len()).find(|&at| core[at] != expected[at]) {

@@ -2,7 +2,7 @@
 
 use super::call::{Call, SPARE};
 use crate::random::{any_list, any_word, Random};
-use plus::{LINE, RAM, STORE, UNLOCK};
+use plus::{EXPORT, LINE, RAM, STORE, UNLOCK};
 
 /// The addresses around the edges of each block of registers.
 const EDGES: [u16; 24] = [
@@ -30,7 +30,7 @@ impl Writer {
 
     /// A phrase: some calls that go together.
     pub(super) fn phrase(&mut self) {
-        match self.random.below(50) {
+        match self.random.below(55) {
             0..=1 => self.unlock(2),
             2 => self.opening(),
             3..=5 => self.map(),
@@ -45,6 +45,9 @@ impl Writer {
             43 => self.ram_bytes(),
             44..=46 => self.ports(),
             47..=48 => self.draw(),
+            49..=51 => self.undos(6),
+            52 => self.export(),
+            53 if self.random.chance(2) => self.editing(),
             _ if self.random.chance(3) => self.push(Call::Reset),
             _ => self.opening(),
         }
@@ -203,6 +206,35 @@ impl Writer {
                 _ => self.random.byte(),
             };
             self.page_write(address, byte);
+        }
+    }
+
+    fn undos(&mut self, most: u64) {
+        for _ in 0..1 + self.random.below(most) {
+            let store = self.length(STORE);
+            self.push(Call::Undo { store });
+        }
+    }
+
+    fn export(&mut self) {
+        let out = self.length(EXPORT);
+        self.push(Call::Export { out });
+    }
+
+    /// A long time of editing: writes and more writes, now and then some taken
+    /// back, lines between, and seldom all taken back in the end.
+    fn editing(&mut self) {
+        self.opening();
+        for _ in 0..100 + self.random.below(150) {
+            match self.random.below(12) {
+                0 => self.undos(4),
+                1 => self.steps(2),
+                2 => self.export(),
+                _ => self.page_writes(),
+            }
+        }
+        if self.random.chance(4) {
+            self.undos(300);
         }
     }
 

@@ -3,7 +3,7 @@
 use super::call::{Buffers, Call, SPARE};
 use super::phrases::Writer;
 use crate::random::{any_state, any_word, Random};
-use plus::{State, LINE, RAM, STORE};
+use plus::{State, EXPORT, LINE, RAM, STORE};
 
 /// A state to start from, what is lent, and the calls.
 pub struct Script {
@@ -66,6 +66,7 @@ fn buffers(r: &mut Random) -> Buffers {
         ram: vec![0; RAM + SPARE],
         store: vec![0; STORE + SPARE],
         line: vec![0; LINE + SPARE],
+        export: vec![0; EXPORT + SPARE],
     };
     match r.below(4) {
         0 => {}
@@ -78,5 +79,6 @@ fn buffers(r: &mut Random) -> Buffers {
     }
     r.fill(&mut lent.store);
     r.fill(&mut lent.line);
+    r.fill(&mut lent.export);
     lent
 }

@@ -8,7 +8,7 @@ pub struct HighestSpriteFirst;
 
 impl Fault for HighestSpriteFirst {
     fn draw(chip: &mut Chip, ram: &[u8], store: &[u8], line: &mut [u8]) -> u8 {
-        let mut turned = *chip;
+        let mut turned = chip.clone();
         turned.sprites.reverse();
         let pixels: Vec<u8> = store.rchunks(256).flatten().copied().collect();
         turned.draw(ram, &pixels, line)
@@ -20,7 +20,7 @@ pub struct ScrollOf3Bits;
 
 impl Fault for ScrollOf3Bits {
     fn draw(chip: &mut Chip, ram: &[u8], store: &[u8], line: &mut [u8]) -> u8 {
-        let mut scrolled = *chip;
+        let mut scrolled = chip.clone();
         scrolled.video.sscr &= 0xF7;
         scrolled.draw(ram, store, line)
     }
@@ -31,7 +31,7 @@ pub struct ModeThreeDrawn;
 
 impl Fault for ModeThreeDrawn {
     fn draw(chip: &mut Chip, ram: &[u8], store: &[u8], line: &mut [u8]) -> u8 {
-        let mut drawn = *chip;
+        let mut drawn = chip.clone();
         drawn.gate.mode = drawn.gate.mode.min(2);
         drawn.draw(ram, store, line)
     }

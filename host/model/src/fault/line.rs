@@ -21,7 +21,7 @@ pub struct RasterInAdjust;
 
 impl Fault for RasterInAdjust {
     fn step(chip: &mut Chip, ram: &[u8]) -> (u8, Report) {
-        let mut outside = *chip;
+        let mut outside = chip.clone();
         outside.crtc.counters.adjust = false;
         outside.step(ram);
         let stepped = chip.step(ram);

@@ -1,8 +1,8 @@
 //! The model's state as the core's, and back: structs of the same names and
-//! fields.
+//! fields. The model's record is a list and no part of it.
 
 use crate::chip::{self, Model};
-use plus::State;
+use plus::{Editing, State};
 
 /// Both ways between the two structs of a name.
 macro_rules! same {
@@ -64,6 +64,7 @@ impl From<&Model> for State {
             palette: model.palette,
             sound: model.sound.into(),
             interrupts: model.interrupts.into(),
+            editing: Editing::default(),
         }
     }
 }

@@ -1,13 +1,15 @@
-//! Document 01, and the requests after it, held against the core and against the
-//! model, a file for each part. Every expected value is the documents' or worked
-//! out beside the test.
+//! Documents 01 and 02 held against the core and against the model, a file for
+//! each part of them. Every expected value is the document's or worked out beside
+//! the test.
 
 // A test that no machine is held to would be dead code.
 #![deny(dead_code)]
 
 mod drawing;
+mod export;
 mod forecast;
 mod interrupts;
+mod kept;
 mod line;
 mod listing;
 mod lock;
@@ -19,3 +21,4 @@ mod screen;
 mod sound;
 mod split;
 mod sprites;
+mod undo;

@@ -2,7 +2,7 @@
 
 use model::under_test::{UnderTest, KEY};
 use model::{held, Machine};
-use plus::{Crtc, Gate, Interrupts, Lock, Sound, Sprite, State, Video, RAM, STORE};
+use plus::{Crtc, Editing, Gate, Interrupts, Lock, Sound, Sprite, State, Video, RAM, STORE};
 
 // The defaults are all zero: locked, not mapped, sprites and channels off.
 held!(all_is_zero_but_ivr);
@@ -19,8 +19,10 @@ fn all_is_zero_but_ivr<M: Machine>() {
             ivr: 0x01,
             ..Interrupts::default()
         },
+        editing: Editing::default(),
     };
     assert_eq!(M::new().state(), expected);
+    assert_eq!(M::new().record(), []);
 }
 
 held!(the_bytes_before_it_are_forgotten);
@@ -28,7 +30,7 @@ fn the_bytes_before_it_are_forgotten<M: Machine>() {
     let mut chip = M::new();
     chip.feed(&[1, 0]);
     chip.feed(KEY);
-    chip = M::new();
+    chip.reset();
     chip.feed(&[0xEE]);
     assert!(!chip.state().lock.unlocked);
 }

@@ -1,0 +1,2 @@
+-- Laws of a record served.
+pub mod Serving

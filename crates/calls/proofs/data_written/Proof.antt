@@ -1,0 +1,20 @@
+-- The line has the answer.
+use borrow.Author.Needs.{needs}
+use Rattle.calls.proofs.Serving.{answers}
+use Rattle.calls.proofs.data_written.Statement.{statement}
+use Rattle.calls.proofs.data_written.Tie as tie
+
+write-bd-requires : tie.Need-write-bd-requires
+write-bd-requires c κs = search needs
+
+answered-requires : tie.Need-answered-requires
+answered-requires c κs = search needs
+
+same-length : tie.Need-same-length
+same-length c = search needs
+
+returns : tie.Need-returns
+returns c = answers (c .before .before .before .before .write-bd .ensures) (c .before .before .answered .ensures)
+
+pub data-written-spec : {M : Type 1} → statement M
+data-written-spec = tie.close (tie.spec write-bd-requires answered-requires same-length returns)

@@ -1,0 +1,20 @@
+-- The line has the answer.
+use borrow.Author.Needs.{needs}
+use Rattle.calls.proofs.Serving.{answers}
+use Rattle.calls.proofs.gate_written.Statement.{statement}
+use Rattle.calls.proofs.gate_written.Tie as tie
+
+write-7f-requires : tie.Need-write-7f-requires
+write-7f-requires c κs = search needs
+
+answered-requires : tie.Need-answered-requires
+answered-requires c κs = search needs
+
+same-length : tie.Need-same-length
+same-length c = search needs
+
+returns : tie.Need-returns
+returns c = answers (c .before .before .before .before .write-7f .ensures) (c .before .before .answered .ensures)
+
+pub gate-written-spec : {M : Type 1} → statement M
+gate-written-spec = tie.close (tie.spec write-7f-requires answered-requires same-length returns)

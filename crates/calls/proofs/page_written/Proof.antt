@@ -1,0 +1,26 @@
+-- The line has the answer.
+use borrow.Author.Needs.{needs}
+use Rattle.calls.proofs.Serving.{answers}
+use Rattle.calls.proofs.page_written.Statement.{statement}
+use Rattle.calls.proofs.page_written.Tie as tie
+
+page-write-requires : tie.Need-page-write-requires
+page-write-requires c κs = search needs
+
+answered-requires : tie.Need-answered-requires
+answered-requires c κs = search needs
+
+same-length : tie.Need-same-length
+same-length c = search needs
+
+same-length-2 : tie.Need-same-length-2
+same-length-2 c = search needs
+
+returns : tie.Need-returns
+returns c =
+    let wrote = c .before .before .before .before .before .before .page-write .ensures in
+    (answers (wrote .call) (c .before .before .answered .ensures), (wrote .store-after, wrote .places-after))
+
+pub page-written-spec : {M : Type 1} → statement M
+page-written-spec =
+    tie.close (tie.spec page-write-requires answered-requires same-length same-length-2 returns)

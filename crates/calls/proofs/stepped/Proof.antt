@@ -1,0 +1,22 @@
+-- The line of the answer.
+use borrow.Author.Needs.{needs}
+use Rattle.calls.specs.Calls.{lineStepLine}
+use Rattle.calls.proofs.stepped.Statement.{statement}
+use Rattle.calls.proofs.stepped.Tie as tie
+
+step-requires : tie.Need-step-requires
+step-requires c κs = search needs
+
+stepped-requires : tie.Need-stepped-requires
+stepped-requires c κs = search needs
+
+same-length : tie.Need-same-length
+same-length c = search needs
+
+returns : tie.Need-returns
+unfolding lineStepLine
+returns c =
+    record { chip = c .before .before .before .before .before .before .step .ensures .chip; puts = simp (c .before .before .before .before .before .before .step .ensures .answer, c .before .before .before .before .before .before .step .ensures .report) at (c .before .before .stepped .ensures .0); bound = search needs }
+
+pub stepped-spec : {M : Type 1} → statement M
+stepped-spec = tie.close (tie.spec step-requires stepped-requires same-length returns)

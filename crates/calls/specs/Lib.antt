@@ -1,0 +1,2 @@
+-- What a record does and prints.
+pub mod Calls

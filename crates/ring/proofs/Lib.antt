@@ -1,0 +1,2 @@
+-- Laws of the record.
+pub mod Laws

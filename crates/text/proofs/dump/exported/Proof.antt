@@ -1,0 +1,61 @@
+-- The answer, a space and the digits.
+use borrow.Author.Needs.{needs}
+use Rattle.text.proofs.Putting.{joined}
+use Rattle.text.proofs.Dumping.{export-line}
+use Rattle.text.proofs.dump.exported.Statement.{statement}
+use Rattle.text.proofs.dump.exported.Tie as tie
+
+slice-aggregate-export : tie.Need-slice-aggregate-export
+slice-aggregate-export c = search needs
+
+export-requires : tie.Need-export-requires
+export-requires c κs = search needs
+
+cast-number : tie.Need-cast-number
+cast-number c = search needs
+
+number-requires : tie.Need-number-requires
+number-requires c κs = search needs
+
+slice-aggregate-put : tie.Need-slice-aggregate-put
+slice-aggregate-put c = search needs
+
+put-requires : tie.Need-put-requires
+put-requires c κs = search needs
+
+slice-aggregate-put-digits : tie.Need-slice-aggregate-put-digits
+slice-aggregate-put-digits c = search needs
+
+put-digits-requires : tie.Need-put-digits-requires
+put-digits-requires c κs = search needs
+
+ended-requires : tie.Need-ended-requires
+ended-requires c κs = search needs
+
+same-length : tie.Need-same-length
+same-length c = search needs
+
+returns : tie.Need-returns
+returns c =
+    let n = c .before .before .before .before .before .before .before .before .before .before .before .before .before .before .before .before .number in
+    let d = c .before .before .before .before .before .before .put-digits in (
+      export-line (c .before .before .before .before .before .before .before .before .before .before .before .before .before .before .before .before .before .before .before .export .ensures) (search needs)
+          (joined (joined (n .ensures .0) (joined (c .before .before .before .before .before .before .before .before .before .before .before .put .ensures) (d .ensures .0))) (c .before .before .ended .ensures .0)),
+      search needs,
+    )
+
+pub exported-spec : {M : Type 1} → statement M
+exported-spec =
+    tie.close
+    (tie.spec
+    slice-aggregate-export
+    export-requires
+    cast-number
+    number-requires
+    slice-aggregate-put
+    put-requires
+    slice-aggregate-put-digits
+    put-digits-requires
+    ended-requires
+    same-length
+    returns)

@@ -1,0 +1,5 @@
+-- What the runner prints: text, its lines, a drawn line, an export.
+pub mod Text
+pub mod Lines
+pub mod Paint
+pub mod Dump

@@ -1,0 +1,34 @@
+-- The lines of output.
+use mathlib.Core.List.{List, [], _∷_, _++_}
+use Prim.Native.Nat.{ℕ}
+use Rattle.sound.specs.declared.Report.{Report}
+use Rattle.sound.specs.Line.{didOf}
+use Rattle.text.specs.Text.{numeral, spacedNumeral, lineEnd, didText}
+
+-- one number
+abbrev pub oneLine : ℕ → List ℕ
+oneLine a = numeral a ++ lineEnd
+
+-- two numbers
+abbrev pub twoLine : ℕ → ℕ → List ℕ
+twoLine a b = numeral a ++ spacedNumeral b ++ lineEnd
+
+-- a line step: the answer, the cycles, and what each of the three channels did
+abbrev pub stepLine : ℕ → Report → List ℕ
+stepLine a r =
+    numeral a ++ spacedNumeral (r .cycles) ++ didText (didOf (r .entries) 0) ++ didText (didOf (r .entries) 1) ++
+    didText (didOf (r .entries) 2) ++
+    lineEnd
+
+-- a forecast: the answer, lines, cycles and the bytes of the list
+abbrev pub forecastLine : ℕ → ℕ → ℕ → ℕ → List ℕ
+forecastLine a lines cycles bytes =
+    numeral a ++ spacedNumeral lines ++ spacedNumeral cycles ++ spacedNumeral bytes ++ lineEnd
+
+-- bad: a record that names no call
+abbrev pub badLine : List ℕ
+badLine = 98 ∷ 97 ∷ 100 ∷ 10 ∷ []
+
+-- short: input that ends too early
+abbrev pub shortLine : List ℕ
+shortLine = 115 ∷ 104 ∷ 111 ∷ 114 ∷ 116 ∷ 10 ∷ []

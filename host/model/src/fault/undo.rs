@@ -1,0 +1,193 @@
+//! Faults of the record and of undo.
+
+use crate::machine::Fault;
+use plus::{answer, Chip, State, STORE};
+
+/// Puts an entry more into the record: a palette byte written as it is.
+fn keep_another(chip: &mut Chip) {
+    let (mapped, byte) = (chip.gate.mapped, chip.palette[0]);
+    chip.gate.mapped = true;
+    chip.page_write(&mut [0; STORE], 0x6400, byte);
+    chip.gate.mapped = mapped;
+}
+
+/// An undo, and then something more at the address of what it took back.
+fn undone_and(
+    chip: &mut Chip,
+    store: &mut [u8],
+    more: impl FnOnce(&mut State, &mut [u8], usize),
+) -> u8 {
+    let newest = chip.record().next();
+    let answer = chip.undo(store);
+    if let (answer::DONE, Some((address, _))) = (answer, newest) {
+        more(chip, store, address.into());
+    }
+    answer
+}
+
+/// Writes to DCSR are kept too.
+pub struct DcsrKept;
+
+impl Fault for DcsrKept {
+    fn page_write(chip: &mut Chip, store: &mut [u8], address: u16, byte: u8) -> u8 {
+        let answer = chip.page_write(store, address, byte);
+        if answer == answer::DONE && address == 0x6C0F {
+            keep_another(chip);
+        }
+        answer
+    }
+}
+
+/// Refused writes are kept too.
+pub struct RefusedKept;
+
+impl Fault for RefusedKept {
+    fn page_write(chip: &mut Chip, store: &mut [u8], address: u16, byte: u8) -> u8 {
+        let answer = chip.page_write(store, address, byte);
+        if answer != answer::DONE {
+            keep_another(chip);
+        }
+        answer
+    }
+}
+
+/// A write that leaves everything as it was isn't kept.
+pub struct SameNotKept;
+
+impl Fault for SameNotKept {
+    fn page_write(chip: &mut Chip, store: &mut [u8], address: u16, byte: u8) -> u8 {
+        let (before, pixels) = (**chip, store.to_vec());
+        let answer = chip.page_write(store, address, byte);
+        let editing = chip.editing;
+        chip.editing = before.editing;
+        if **chip != before || store != pixels {
+            chip.editing = editing;
+        }
+        answer
+    }
+}
+
+/// The record has 255 places.
+pub struct RecordOf255;
+
+impl Fault for RecordOf255 {
+    fn page_write(chip: &mut Chip, store: &mut [u8], address: u16, byte: u8) -> u8 {
+        let answer = chip.page_write(store, address, byte);
+        chip.editing.undo.count = chip.editing.undo.count.min(255);
+        answer
+    }
+}
+
+/// A reset leaves the record.
+pub struct RecordThroughReset;
+
+impl Fault for RecordThroughReset {
+    fn reset(chip: &mut Chip) {
+        let editing = chip.editing;
+        chip.reset();
+        chip.editing = editing;
+    }
+}
+
+/// Undo puts back the byte that was written.
+pub struct WrittenByteBack;
+
+impl Fault for WrittenByteBack {
+    fn undo(chip: &mut Chip, store: &mut [u8]) -> u8 {
+        let (before, pixels) = (**chip, store.to_vec());
+        let answer = chip.undo(store);
+        let editing = chip.editing;
+        **chip = State { editing, ..before };
+        store.copy_from_slice(&pixels);
+        answer
+    }
+}
+
+/// Undo puts back the low 4 bits of a pixel.
+pub struct PixelBackBy4Bits;
+
+impl Fault for PixelBackBy4Bits {
+    fn undo(chip: &mut Chip, store: &mut [u8]) -> u8 {
+        undone_and(chip, store, |_, store, address| {
+            if let 0x4000..=0x4FFF = address {
+                store[address - 0x4000] &= 0x0F;
+            }
+        })
+    }
+}
+
+/// Undo of one byte of a start address clears the other.
+pub struct OtherByteToo;
+
+impl Fault for OtherByteToo {
+    fn undo(chip: &mut Chip, store: &mut [u8]) -> u8 {
+        undone_and(chip, store, |state, _, address| {
+            if let 0x6C00..=0x6C0B = address {
+                let channel = &mut state.sound.channels[(address - 0x6C00) / 4];
+                channel.address &= [0x00FF, 0xFF00, 0xFFFF, 0xFFFF][address % 4];
+            }
+        })
+    }
+}
+
+/// Undo of a split address reaches one that is already captured.
+pub struct CapturedSplitBack;
+
+impl Fault for CapturedSplitBack {
+    fn undo(chip: &mut Chip, store: &mut [u8]) -> u8 {
+        undone_and(chip, store, |state, _, address| {
+            let (video, counters) = (state.video, &mut state.crtc.counters);
+            if counters.held && (0x6802..=0x6803).contains(&address) {
+                counters.split = u16::from_le_bytes([video.split_low, video.split_high]);
+            }
+        })
+    }
+}
+
+/// Undo of an empty record is served.
+pub struct EmptyServed;
+
+impl Fault for EmptyServed {
+    fn undo(chip: &mut Chip, store: &mut [u8]) -> u8 {
+        match chip.undo(store) {
+            answer::NOTHING_TO_UNDO => answer::DONE,
+            answer => answer,
+        }
+    }
+}
+
+/// An empty record is told before a store of another length.
+pub struct EmptyFirst;
+
+impl Fault for EmptyFirst {
+    fn undo(chip: &mut Chip, store: &mut [u8]) -> u8 {
+        match chip.undo(store) {
+            answer::WRONG_LENGTH if chip.editing.undo.count == 0 => answer::NOTHING_TO_UNDO,
+            answer => answer,
+        }
+    }
+}
+
+/// Undo is refused where the page is not mapped.
+pub struct UndoWhereMapped;
+
+impl Fault for UndoWhereMapped {
+    fn undo(chip: &mut Chip, store: &mut [u8]) -> u8 {
+        match chip.gate.mapped {
+            true => chip.undo(store),
+            false => answer::NOT_MAPPED,
+        }
+    }
+}
+
+/// Undo is refused while the chip is locked.
+pub struct UndoWhereUnlocked;
+
+impl Fault for UndoWhereUnlocked {
+    fn undo(chip: &mut Chip, store: &mut [u8]) -> u8 {
+        match chip.lock.unlocked {
+            true => chip.undo(store),
+            false => answer::NOT_MAPPED,
+        }
+    }
+}
