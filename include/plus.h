@@ -54,6 +54,14 @@ enum {
     PLUS_NOTHING = 5 /* a word that does nothing */
 };
 
+/* What the processor does at the 8255 while a channel has its turn. It counts where the channel executes a LOAD, and nowhere else.
+ * Any number above 2 is a PSG register write too. */
+enum {
+    PLUS_OFF = 0,      /* it is off the 8255 */
+    PLUS_ON = 1,       /* it is on it: the LOAD takes a cycle more */
+    PLUS_PSG_WRITE = 2 /* it writes a PSG register there: the LOAD takes two more */
+};
+
 /* The state. */
 
 typedef struct {
@@ -157,14 +165,16 @@ typedef struct {
 typedef struct {
     PlusChip chip;
     uint8_t answer;
-    uint8_t cycles;   /* of the whole line, its dead cycle with them */
+    uint8_t cycles;   /* of the whole line, its dead cycle with them: at most 34 */
     uint8_t kinds[3]; /* for each channel PLUS_SAT_OUT to PLUS_NOTHING */
     uint16_t lows[3]; /* the low 12 bits of its word, 0 if it sat out */
 } PlusStepped;
 
 typedef struct {
     uint8_t answer;
-    uint64_t lines, cycles;  /* the channel's own cycles */
+    uint64_t lines;
+    uint64_t cycles;         /* the channel's own cycles, if the processor disturbs no LOAD: it never takes fewer */
+    uint64_t most;           /* the same, if a PSG register write meets every LOAD: it never takes more */
     uint32_t offset, length; /* the list, its STOP with it: so many bytes of RAM from offset on */
 } PlusLength;
 
@@ -212,8 +222,9 @@ uint8_t plus_export(PlusChip chip, uint8_t *out, size_t out_length);
 /* Serves the waiting interrupt that comes first and gives its vector. Answers 0 or 5. */
 PlusAcknowledged plus_acknowledge(PlusChip chip);
 
-/* One line: sound, raster compare, split compare, counters. Answers 0 or 1. */
-PlusStepped plus_step(PlusChip chip, const uint8_t *ram, size_t ram_length);
+/* One line: sound, raster compare, split compare, counters. The last three numbers say what the processor does at the 8255, for
+ * channels 0, 1 and 2; they change the line's cycles and nothing else. Answers 0 or 1. */
+PlusStepped plus_step(PlusChip chip, const uint8_t *ram, size_t ram_length, uint8_t first, uint8_t second, uint8_t third);
 
 /* Draws the current line: each of the PLUS_LINE bytes becomes a palette entry. Answers 0, 1 or 4. */
 uint8_t plus_draw(PlusChip chip, const uint8_t *ram, size_t ram_length, const uint8_t *store, size_t store_length, uint8_t *line,
@@ -222,7 +233,7 @@ uint8_t plus_draw(PlusChip chip, const uint8_t *ram, size_t ram_length, const ui
 /* The grey of a palette entry, 0 to 195, from its two bytes. No answer number. */
 uint8_t plus_grey(uint8_t low, uint8_t high);
 
-/* The length of the sound list at a start address, before it plays. Answers 0, 1 or 6. */
+/* The length of the sound list at a start address, before it plays, and the least and the most of its cycles. Answers 0, 1 or 6. */
 PlusLength plus_forecast(const uint8_t *ram, size_t ram_length, uint16_t start, uint8_t prescale);
 
 /* Prints sound words as text, a line each. Room for PLUS_LONGEST_LINE bytes a word is always enough; what lies beyond the text

@@ -1,5 +1,5 @@
-/* Reads a sound list from text and prints it, forecasts it, then plays it on channel 0 up to its STOP and counts the same two
- * numbers. A slip on the way is undone. */
+/* Reads a sound list from text and prints it, forecasts it, then plays it on channel 0 up to its STOP and counts the same numbers: the
+ * least cycles with the processor off the 8255, the most with PSG register writes on every line. A slip on the way is undone. */
 #include <stdio.h>
 #include <stdlib.h>
 #include <string.h>
@@ -49,13 +49,8 @@ static PlusChip undo(PlusChip chip) {
     return undone.chip;
 }
 
-int main(void) {
-    put_list(song, 0x8000);
-    PlusLength told = plus_forecast(ram, sizeof ram, 0x8000, 0);
-    served("forecast", told.answer);
-    printf("forecast: lines %llu cycles %llu, %u bytes at %04Xh\n", (unsigned long long)told.lines,
-           (unsigned long long)told.cycles, told.length, told.offset);
-
+/* A chip whose channel 0 is about to play the list. */
+static PlusChip ready(void) {
     PlusChip chip = plus_reset();
     for (size_t i = 0; i < sizeof unlock; i++)
         chip = plus_write_bc(chip, unlock[i]).chip;
@@ -64,16 +59,30 @@ int main(void) {
     chip = poke(chip, 0x6C01, 0x80);
     chip = poke(chip, 0x6C02, 0);
     chip = undo(poke(chip, 0x6C02, 5)); /* another prescale would make the pause longer */
-    chip = poke(chip, 0x6C0F, 0x01);
+    return poke(chip, 0x6C0F, 0x01);
+}
 
+/* Plays the list while the processor does one thing on every line. */
+static void play(const char *what, uint8_t access) {
+    PlusChip chip = ready();
     unsigned long lines = 0, cycles = 0;
     while (chip.sound.channels[0].enabled) {
-        PlusStepped line = plus_step(chip, ram, sizeof ram);
+        PlusStepped line = plus_step(chip, ram, sizeof ram, access, PLUS_OFF, PLUS_OFF);
         served("step", line.answer);
         chip = line.chip;
         lines += 1;
         cycles += line.cycles - 1; /* without the line's dead cycle */
     }
-    printf("played: lines %lu cycles %lu\n", lines, cycles);
+    printf("%s: lines %lu cycles %lu\n", what, lines, cycles);
+}
+
+int main(void) {
+    put_list(song, 0x8000);
+    PlusLength told = plus_forecast(ram, sizeof ram, 0x8000, 0);
+    served("forecast", told.answer);
+    printf("forecast: lines %llu cycles %llu to %llu, %u bytes at %04Xh\n", (unsigned long long)told.lines,
+           (unsigned long long)told.cycles, (unsigned long long)told.most, told.length, told.offset);
+    play("played", PLUS_OFF);
+    play("played beside PSG writes", PLUS_PSG_WRITE);
     return 0;
 }

@@ -187,8 +187,8 @@ class Chip:
                 return 0, top + low
         return 5, 0
 
-    # one line
-    def sound(self, ram):
+    # one line; two bits of the byte for each channel, from channel 0 up, are what the processor does at the 8255
+    def sound(self, ram, processor):
         words = []
         for c in self.channels:
             if c.enabled and c.pause > 0:
@@ -202,7 +202,7 @@ class Chip:
             else:
                 words.append(None)
         cycles, did = 1, []
-        for c, w in zip(self.channels, words):
+        for n, (c, w) in enumerate(zip(self.channels, words)):
             if w is None:
                 did.append('-')
                 continue
@@ -226,12 +226,12 @@ class Chip:
                     c.interrupt = True
                 if low & 32:
                     c.enabled = False
-            cycles += 9 if kind == 'load' else 2
+            cycles += 9 + (0, 1, 2, 2)[processor >> 2 * n & 3] if kind == 'load' else 2
             did.append('%s %d' % (kind, low))
         return cycles, did
 
-    def line(self, ram):
-        cycles, did = self.sound(ram)
+    def line(self, ram, processor):
+        cycles, did = self.sound(ram, processor)
         pri, split, high, low, sscr = self.video
         if pri and not self.adjust and pri == self.vc % 64 * 8 + self.rc % 8:
             self.raster = True
@@ -307,12 +307,12 @@ def forecast(ram, start, prescale):
     at = start // 2 * 2
     while True:
         if at > 0xFFFE:
-            return '6 0 0 0'
+            return '6 0 0 0 0'
         words.append(ram[at] + 256 * ram[at + 1])
         at += 2
         if words[-1] >> 12 == 4 and words[-1] & 32:
             break
-    lines = cycles = 0
+    lines = cycles = most = 0
     for i, w in enumerate(words):
         passes = 1
         before = [k for k in range(i) if words[k] >> 12 == 2]
@@ -324,7 +324,8 @@ def forecast(ram, start, prescale):
         pause = w & 0xFFF if w >> 12 == 1 else 0
         lines += passes * (pause * (prescale + 1) if pause else 1)
         cycles += passes * (9 if w >> 12 == 0 else 2)
-    return '0 %d %d %d' % (lines, cycles, 2 * len(words))
+        most += passes * (11 if w >> 12 == 0 else 2)
+    return '0 %d %d %d %d' % (lines, cycles, 2 * len(words), most)
 
 
 def play(ram, store, records, drawing=True):
@@ -349,7 +350,7 @@ def play(ram, store, records, drawing=True):
         elif op == ord('A'):
             out.append('%d %d' % chip.acknowledge())
         elif op == ord('L'):
-            cycles, did = chip.line(ram)
+            cycles, did = chip.line(ram, value)
             out.append('0 %d %s' % (cycles, ' '.join(did)))
         elif op == ord('P') and drawing:
             out.append(chip.draw(ram, store))

@@ -43,12 +43,22 @@ def exported(held):
     return '0 ' + ''.join('%02x%02x%02x' % (a & 255, a >> 8, held.get(a, 0)) for a in EXPORTED)
 
 
-LISTS = {0x8000: [0x0738, 0x1002, 0x4020], 0x9000: [0x2005, 0x4031], 0xA002: [0x3123]}
+LISTS = {0x8000: [0x0738, 0x1002, 0x4020], 0x9000: [0x2005, 0x4031], 0xA002: [0x3123], 0xB000: [0x2003, 0x080F, 0x4001, 0x4020]}
+# what the processor does at the 8255, and the cycles of a line on which all three channels LOAD: channel 0 alone, 1 alone, 2 alone, then
+# together, then with the two highest bits, which say nothing
+PROCESSOR = [
+    (0x00, 28), (0x01, 29), (0x02, 30), (0x03, 30), (0x04, 29), (0x08, 30), (0x0C, 30), (0x10, 29), (0x20, 30), (0x30, 30),
+    (0x05, 30), (0x06, 31), (0x07, 31), (0x09, 31), (0x0A, 32), (0x0B, 32), (0x0D, 31), (0x0E, 32), (0x0F, 32),
+    (0x11, 30), (0x12, 31), (0x14, 30), (0x15, 31), (0x16, 32), (0x18, 31), (0x19, 32), (0x1A, 33), (0x1B, 33),
+    (0x21, 31), (0x22, 32), (0x24, 31), (0x25, 32), (0x26, 33), (0x28, 32), (0x29, 33), (0x2A, 34), (0x3F, 34),
+    (0x40, 28), (0x80, 28), (0xC0, 28), (0xD5, 31), (0xFF, 34),
+]
 # the record and the line that answers it
 STORED = [
     # the forecast, and the page before it is mapped
-    (rec('F', 0x8000, 0), '0 4 13 6'), (rec('F', 0x8001, 2), '0 8 13 6'),
-    (rec('F', 0x9000, 0), '0 2 4 4'), (rec('F', 0x9004, 0), '6 0 0 0'),
+    (rec('F', 0x8000, 0), '0 4 13 6 15'), (rec('F', 0x8001, 2), '0 8 13 6 15'),
+    (rec('F', 0x9000, 0), '0 2 4 4 4'), (rec('F', 0xB008, 0), '6 0 0 0 0'),
+    (rec('F', 0xB000, 0), '0 10 48 8 56'),
     (rec('R', 0x6000, 0x12), '2 0'), (rec('W', 0x6000, 1), '2'),
     (rec('G', 0, 0xB8), '0'), (rec('R', 0x6000, 0x12), '2 0'),
     (rec('G', 0, 0x40), '3'), (rec('D', 0, 1), '3'), (rec('A'), '5 0'),
@@ -93,6 +103,20 @@ STORED = [
     # the writes before it, with the page mapped out: 80h to 6C09h and to 6C05h, where 0 was
     (rec('G', 0, 0xA0), '0'), (rec('U'), '0'), (rec('U'), '0'), (rec('R', 0x6000, 0), '2 0'),
     (rec('E'), exported({0x6001: 3, 0x6004: 1, 0x6800: 1, 0x6805: 0xA8, 0x6C00: 0x02, 0x6C01: 0x90, 0x6C04: 0x06, 0x6C08: 0x06})),
+    # RAM of zeros is all LOADs: the three channels there, from C000h on
+    (rec('G', 0, 0xB8), '0'), (rec('W', 0x6C00, 0), '0'), (rec('W', 0x6C01, 0xC0), '0'), (rec('W', 0x6C04, 0), '0'),
+    (rec('W', 0x6C05, 0xC0), '0'), (rec('W', 0x6C08, 0), '0'), (rec('W', 0x6C09, 0xC0), '0'), (rec('W', 0x6C0F, 7), '0'),
+] + [(rec('L', 0, value), '0 %d load 0 load 0 load 0' % cycles) for value, cycles in PROCESSOR] + [
+    # the list at B000h on channel 0, beside LOADs of channel 2: only what is done for these two counts, and only where they LOAD
+    (rec('W', 0x6C00, 0), '0'), (rec('W', 0x6C01, 0xB0), '0'), (rec('W', 0x6C0F, 5), '0'),
+    (rec('L', 0, 0x1F), '0 13 repeat 3 - load 0'), (rec('L', 0, 0x0E), '0 21 load 2063 - load 0'),
+    (rec('L', 0, 0x23), '0 14 control 1 - load 0'), (rec('L', 0, 0x0D), '0 20 load 2063 - load 0'),
+    (rec('W', 0x6C0F, 1), '0'), (rec('L', 0, 0xFF), '0 3 control 1 - -'), (rec('L', 0, 0x3C), '0 10 load 2063 - -'),
+    # and a pause, one that is sat out, and a word that does nothing
+    (rec('W', 0x6C00, 0x02), '0'), (rec('W', 0x6C01, 0x80), '0'), (rec('L', 0, 0x3F), '0 3 pause 2 - -'),
+    (rec('L', 0, 0x3F), '0 1 - - -'), (rec('L', 0, 0x3F), '0 3 control 32 - -'), (rec('L', 0, 0x3F), '0 1 - - -'),
+    (rec('W', 0x6C00, 0x02), '0'), (rec('W', 0x6C01, 0xA0), '0'), (rec('W', 0x6C0F, 1), '0'),
+    (rec('L', 0, 0x3F), '0 3 nothing 291 - -'),
     # no call, and reset
     (rec('x', 0x1234, 5), 'bad'), (rec('b', 0, 9), 'bad'), (rec('\0'), 'bad'), (rec('u'), 'bad'), (rec('e'), 'bad'),
     (rec('Z'), '0'), (rec('R', 0x4000, 0x12), '2 0'), (rec('L'), '0 1 - - -'), (rec('U'), '10'),

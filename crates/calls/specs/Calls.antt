@@ -1,11 +1,12 @@
 -- What a record leaves: the chip, RAM, the pixel store, and its line of output.
 use mathlib.Core.Path.{_≡_}
 use mathlib.Core.List.{List, []}
-use Prim.Native.Nat.{ℕ, _+_, _≤_}
+use Prim.Native.Nat.{ℕ, _+_, _/_, _%_, _≤_}
 use lib.Dec.{eqb}
 use lib.ListN.{length, set}
 use Rattle.words.specs.Choice.{if}
-use Rattle.sound.specs.Line.{soundLine}
+use Rattle.sound.specs.declared.Accesses.{Accesses}
+use Rattle.sound.specs.Line.{soundReport, accessBy}
 use Rattle.chip.specs.declared.Chip.{Chip}
 use Rattle.words.specs.Answers.{done, served}
 use Rattle.chip.specs.Reset.{resetChip}
@@ -16,7 +17,7 @@ use Rattle.registers.specs.Address.{registerAt}
 use Rattle.registers.specs.Registers.{registerRead, storeWritten}
 use Rattle.page.specs.Page.{readAnswer, writeAnswer, pageWritten, placesAfter}
 use Rattle.page.specs.Undo.{undoAnswer, newest, undone, storeUndone}
-use Rattle.forecast.specs.Rule.{answerOf, linesForecast, cyclesForecast, listOf}
+use Rattle.forecast.specs.Rule.{answerOf, linesForecast, cyclesForecast, mostForecast, listOf}
 use Rattle.calls.specs.declared.Machine.{Machine}
 use Rattle.calls.specs.declared.Record.{Record}
 use Rattle.text.specs.Text.{Puts}
@@ -50,14 +51,20 @@ readLine c store a bus =
 unfoldable pub acknowledgeLine : Chip → List ℕ
 acknowledgeLine c = twoLine (acknowledgeAnswer c) (served (acknowledgeAnswer c) (vectorOn c) 0)
 
-unfoldable pub lineStepLine : Chip → List ℕ → List ℕ
-lineStepLine c ram = stepLine (stepAnswer ram) (served (stepAnswer ram) (soundLine ram (c .sound) .report) idleReport)
+-- what the processor does at the 8255, two bits of the value for each channel: channel n's are bits 2n + 1 and 2n
+abbrev pub accessesIn : ℕ → Accesses
+accessesIn v = record { first = accessBy (v % 4); second = accessBy (v / 4 % 4); third = accessBy (v / 16 % 4) }
+
+unfoldable pub lineStepLine : Chip → List ℕ → ℕ → List ℕ
+lineStepLine c ram value =
+    stepLine (stepAnswer ram) (served (stepAnswer ram) (soundReport ram (accessesIn value) (c .sound)) idleReport)
 
 unfoldable pub foretoldLine : List ℕ → ℕ → ℕ → List ℕ
 foretoldLine ram start prescale =
     forecastLine (answerOf ram start) (if (eqb (answerOf ram start) 0) (linesForecast ram start prescale) 0)
     (if (eqb (answerOf ram start) 0) (cyclesForecast ram start) 0)
     (length (if (eqb (answerOf ram start) 0) (listOf ram start) []))
+    (if (eqb (answerOf ram start) 0) (mostForecast ram start) 0)
 
 -- the chip, RAM, the store, the undo places and the line after a record
 pub record Outcome : Type 0 where
@@ -106,7 +113,7 @@ module _ (c : Chip) (ram store places : List ℕ) where
   abbrev lines : ℕ → ℕ → ℕ → Outcome → Outcome
   lines op a value other =
       if (eqb op 65) (left (served (acknowledgeAnswer c) (acknowledged c) c) (acknowledgeLine c))
-      (if (eqb op 76) (left (served (stepAnswer ram) (stepped ram c) c) (lineStepLine c ram))
+      (if (eqb op 76) (left (served (stepAnswer ram) (stepped ram c) c) (lineStepLine c ram value))
       (if (eqb op 80) (left c (paintedLine c ram store))
       (if (eqb op 70) (left c (foretoldLine ram a value)) other)))
 

@@ -1,6 +1,7 @@
 // One record: the call that it names, and the line that answers it.
 use chip::Answered;
 use chip::Chip;
+use sound::Accesses;
 use text::dump;
 use text::lines;
 use text::paint;
@@ -18,7 +19,7 @@ ghost use Rattle.page.specs.Undo.{undoAnswer};
 ghost use Rattle.text.specs.Lines.{oneLine, badLine};
 ghost use Rattle.text.specs.Paint.{paintedLine};
 ghost use Rattle.text.specs.Dump.{exportLine};
-ghost use Rattle.calls.specs.Calls.{pageChip, pageStore, pagePlaces, undoneChip, undoneStore, readLine, acknowledgeLine, lineStepLine, foretoldLine, Told, Serves};
+ghost use Rattle.calls.specs.Calls.{accessesIn, pageChip, pageStore, pagePlaces, undoneChip, undoneStore, readLine, acknowledgeLine, lineStepLine, foretoldLine, Told, Serves};
 
 // The chip, and how many bytes of output wait.
 pub struct Machine {
@@ -141,12 +142,23 @@ fn acknowledged(chip: Chip, out: &mut [u8], at: usize) -> Machine
     }
 }
 
-// A line step.
-fn stepped(chip: Chip, ram: &[u8], out: &mut [u8], at: usize) -> Machine
-    requires { ⌜ at + 1024 ≤ length (now out) ⌝ }
-    ensures { λ r. ⌜ Told (served (stepAnswer (now (ram .entry))) (stepped (now (ram .entry)) chip) chip) (lineStepLine chip (now (ram .entry))) (now (out .entry)) at (now (out .exit)) r ⌝ }
+// What the processor does at the 8255 for each channel, two bits a channel.
+fn accesses_in(value: u8) -> Accesses
+    ensures { λ r. ⌜ r ≡ accessesIn value ⌝ }
 {
-    let told = chip::line::step(chip, ram);
+    Accesses {
+        first: sound::access_by(value % 4),
+        second: sound::access_by(value / 4 % 4),
+        third: sound::access_by(value / 16 % 4),
+    }
+}
+
+// A line step.
+fn stepped(chip: Chip, ram: &[u8], out: &mut [u8], at: usize, value: u8) -> Machine
+    requires { ⌜ at + 1024 ≤ length (now out) ⌝ }
+    ensures { λ r. ⌜ Told (served (stepAnswer (now (ram .entry))) (stepped (now (ram .entry)) chip) chip) (lineStepLine chip (now (ram .entry)) value) (now (out .entry)) at (now (out .exit)) r ⌝ }
+{
+    let told = chip::line::step(chip, ram, accesses_in(value));
     let after = told.chip;
     let report = told.report;
     let next = lines::stepped(out, at, told.answer, report);
@@ -230,7 +242,7 @@ pub fn serve(
         b'U' => undone(chip, store, places, out, at),
         b'E' => exported(chip, out, at),
         b'A' => acknowledged(chip, out, at),
-        b'L' => stepped(chip, ram, out, at),
+        b'L' => stepped(chip, ram, out, at, value),
         b'P' => painted(chip, ram, store, out, at),
         b'F' => foretold(chip, ram, out, at, address, value),
         b'M' => poked(chip, ram, out, at, address, value),

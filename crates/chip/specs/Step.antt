@@ -6,9 +6,10 @@ use Prim.Native.Nat.{ℕ, _≤_}
 use lib.Dec.{eqb}
 use lib.ListN.{length}
 use Rattle.words.specs.Choice.{if, either}
+use Rattle.sound.specs.declared.Accesses.{Accesses}
 use Rattle.sound.specs.declared.Report.{Report}
 use Rattle.sound.specs.declared.Did.the-variants.{SatOut}
-use Rattle.sound.specs.Line.{entryOf, soundLine}
+use Rattle.sound.specs.Line.{entryOf, soundAfter, soundReport}
 use Rattle.crtc.specs.Line.{lineOf}
 use Rattle.chip.specs.declared.Chip.{Chip}
 use Rattle.chip.specs.declared.Stepped.{Stepped}
@@ -30,11 +31,11 @@ counted c =
     (either (lineOf (c .crtc .registers) (c .video) (c .crtc .counters) .raster) (c .interrupts .raster))
 
 unfoldable pub stepped : List ℕ → Chip → Chip
-stepped ram c = counted (withSound c (soundLine ram (c .sound) .sound))
+stepped ram c = counted (withSound c (soundAfter ram (c .sound)))
 
--- what the line step promises; no line costs over 28 cycles
-pub record Steps (c : Chip) (ram : List ℕ) (r : Stepped) : Type 0 where
+-- what the line step promises, whatever the processor does; no line costs over 34 cycles
+pub record Steps (c : Chip) (ram : List ℕ) (a : Accesses) (r : Stepped) : Type 0 where
   pub answer : r .answer ≡ stepAnswer ram
   pub chip : r .chip ≡ served (stepAnswer ram) (stepped ram c) c
-  pub report : r .report ≡ served (stepAnswer ram) (soundLine ram (c .sound) .report) idleReport
-  pub bound : r .report .cycles ≤ 28
+  pub report : r .report ≡ served (stepAnswer ram) (soundReport ram a (c .sound)) idleReport
+  pub bound : r .report .cycles ≤ 34

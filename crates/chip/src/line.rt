@@ -1,6 +1,7 @@
 // The line step.
 use crate::Chip;
 use crate::Stepped;
+use sound::Accesses;
 use sound::Did;
 use sound::Entry;
 use sound::Report;
@@ -17,9 +18,9 @@ fn idle_report() -> Report
     Report { cycles: 0, entries }
 }
 
-// One line: sound, raster compare, split compare, counters.
-pub fn step(mut chip: Chip, ram: &[u8]) -> Stepped
-    ensures { λ r. ⌜ Steps chip (now (ram .entry)) r ⌝ }
+// One line: sound, raster compare, split compare, counters. The processor's accesses to the 8255 cost cycles and change nothing else.
+pub fn step(mut chip: Chip, ram: &[u8], accesses: Accesses) -> Stepped
+    ensures { λ r. ⌜ Steps chip (now (ram .entry)) accesses r ⌝ }
 {
     if ram.len() != 65536 {
         return Stepped {
@@ -28,7 +29,7 @@ pub fn step(mut chip: Chip, ram: &[u8]) -> Stepped
             report: idle_report(),
         };
     }
-    let played = sound::sound_line(chip.sound, ram);
+    let played = sound::sound_line(chip.sound, ram, accesses);
     let sound = played.sound;
     chip.sound = sound;
     let mut crtc = chip.crtc;

@@ -8,7 +8,7 @@ use lib.Dec.{eqb·suc-zero}
 use lib.ListN.{length}
 use borrow.Author.Tests.{eq-eqb, ne-eqb}
 use Rattle.forecast.specs.declared.Length.{Length}
-use Rattle.forecast.specs.Rule.{wordsOf, hasStop, even, linesForecast, cyclesForecast, answerOf}
+use Rattle.forecast.specs.Rule.{wordsOf, hasStop, even, linesForecast, cyclesForecast, mostForecast, answerOf}
 use Rattle.forecast.specs.Contract.{Forecasts}
 use Rattle.forecast.proofs.Demands.{demanded}
 
@@ -29,25 +29,27 @@ module _ (ram : List ℕ) (start : ℕ) where
   module _ (prescale : ℕ) (r : Length) where
     -- a refusal has its number, and 0 beside it
     pub forecast-refused :
-        (n : ℕ) → answerOf ram start ≡ suc n → (r .answer ≡ suc n) × (r .lines ≡ 0) × (r .cycles ≡ 0) →
+        (n : ℕ) → answerOf ram start ≡ suc n → (r .answer ≡ suc n) × (r .lines ≡ 0) × (r .cycles ≡ 0) × (r .most ≡ 0) →
         Forecasts ram start prescale r
     forecast-refused n e h =
         record {
           answer = h .0 ∙ sym e;
           lines = simp (e, eqb·suc-zero n, h .1);
           cycles = simp (e, eqb·suc-zero n, h .2);
+          most = simp (e, eqb·suc-zero n, h .3);
           demand = λ z. absurd (omega (arith, h .0));
         }
 
-    -- a list has the lines and cycles of the rule
+    -- a list has the lines, the least and the most cycles of the rule
     pub forecast-served :
         length ram ≡ 65536 → hasStop (wordsOf ram (even start)) ≡ true → r .answer ≡ 0 → r .lines ≡ linesForecast ram start prescale →
-        r .cycles ≡ cyclesForecast ram start → Forecasts ram start prescale r
-    forecast-served h s a l t =
+        r .cycles ≡ cyclesForecast ram start → r .most ≡ mostForecast ram start → Forecasts ram start prescale r
+    forecast-served h s a l t m =
         let e = answer-served h s in
         record {
           answer = a ∙ sym e;
           lines = simp (e, l);
           cycles = simp (e, t);
-          demand = λ z. rw (l, t) (demanded ram start prescale s);
+          most = simp (e, m);
+          demand = λ z. rw (l, t, m) (demanded ram start prescale s);
         }

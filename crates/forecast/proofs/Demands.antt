@@ -3,17 +3,21 @@ use mathlib.Core.Path.{_≡_}
 use mathlib.Core.Bool.{true}
 use mathlib.Core.List.{List}
 use Prim.Native.Nat.{ℕ}
-use Rattle.forecast.specs.Rule.{even, wordsOf, hasStop, linesForecast, cyclesForecast}
+use Rattle.forecast.specs.Rule.{even, wordsOf, hasStop, linesForecast, cyclesMeeting, cyclesForecast, mostForecast}
 use Rattle.forecast.specs.Demand.{channel, didOver, Demand}
 use Rattle.forecast.proofs.Runs.{seen, bounded}
 use Rattle.forecast.proofs.Plays.{plays}
+use Rattle.forecast.proofs.Disturbed.{foretold}
 
 -- a forecast that finds a STOP meets demand 3
 pub demanded :
     (ram : List ℕ) (start n : ℕ) → hasStop (wordsOf ram (even start)) ≡ true →
-    Demand ram start n (linesForecast ram start n) (cyclesForecast ram start)
+    Demand ram start n (linesForecast ram start n) (cyclesForecast ram start) (mostForecast ram start)
 demanded ram start n listed =
     record {
-      foretold = λ m h c d reports ready run. plays ram start n (channel c m) (didOver m reports) listed ready (seen h run);
-      bounded = λ m c d reports run. bounded run;
+      foretold =
+          λ m h c d steps ready run.
+          foretold m (linesForecast ram start n) (λ a. cyclesMeeting a ram start) steps
+          (plays ram start n (channel c m) (didOver m steps) listed ready (seen h run));
+      bounded = λ m c d steps run. bounded run;
     }

@@ -9,13 +9,14 @@ use lib.Dec.{T, eqb, ltb, eqb→eq, ltb→lt}
 use lib.ListN.{length, getD}
 use borrow.Author.Tests.{eq-eqb}
 use Rattle.words.specs.Choice.{if, both}
+use Rattle.sound.specs.declared.Access.the-variants.{Off}
 use Rattle.sound.specs.declared.Channel.{Channel}
 use Rattle.sound.specs.declared.Turn.{Turn}
 use Rattle.sound.specs.Channels.{wordAt, counted, active, fetched, turnOf, withPause}
 use Rattle.sound.specs.Line.{channelAfter}
 use Rattle.picture.specs.Pens.{widthOf, pen}
 use Rattle.picture.specs.Screen.{characterAt, byteAddress, rowLine}
-use Rattle.forecast.specs.Rule.{repeats, loops, stops, closes, openCount, passes, linesOf, cyclesOf, wordsOf, hasStop, total, even, answerOf, linesForecast, cyclesForecast}
+use Rattle.forecast.specs.Rule.{repeats, loops, stops, closes, openCount, passes, linesOf, cyclesOf, wordsOf, hasStop, total, even, answerOf, linesForecast, cyclesMeeting}
 use Rattle.forecast.specs.Demand.{Ready}
 use Rattle.forecast.specs.Examples.{Case, forecasts, ends, shows, pens, cases, Has, Forecast, End, Pens, Claim, All}
 use Rattle.forecast.proofs.Words.{words-stop, words-more}
@@ -76,7 +77,7 @@ penned width b q (p ∷ ps) = both (eqb (pen width b q) p) (penned width b (suc 
 -- the test of a case
 test : Case → Bool
 test (forecasts ws n lines cycles) =
-    both (ended ws) (both (eqb (total (linesOf n) 0 ws) lines) (eqb (total cyclesOf 0 ws) cycles))
+    both (ended ws) (both (eqb (total (linesOf n) 0 ws) lines) (eqb (total (cyclesOf Off) 0 ws) cycles))
 test (ends w a lines address) =
     both (ended (w ∷ []))
     (both (eqb (total (linesOf 0) 0 (w ∷ [])) lines)
@@ -94,10 +95,10 @@ same-even start e = omega arith
 -- a forecast row
 row :
     (ws : List ℕ) (n lines cycles : ℕ) → T (test (forecasts ws n lines cycles)) → Claim (forecasts ws n lines cycles)
-unfolding test linesForecast cyclesForecast
+unfolding test linesForecast cyclesMeeting
 row ws n lines cycles t ram start long evens room has =
     let sums = eqb (total (linesOf n) 0 ws) lines in
-    let costs = eqb (total cyclesOf 0 ws) cycles in
+    let costs = eqb (total (cyclesOf Off) 0 ws) cycles in
     let end = left (ended ws) (both sums costs) t in
     let both-right = right (ended ws) (both sums costs) t in
     let words : wordsOf ram (even start) ≡ ws = rw (same-even start evens) (listed ram start ws room has end) in

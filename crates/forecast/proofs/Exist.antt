@@ -1,16 +1,16 @@
 -- Demand 3 is not empty: from every chip there are runs of every length, and there are chips with ready channels.
 use mathlib.Core.Path.{_≡_, refl, ap}
 use mathlib.Core.Bool.{Bool, true, false}
-use mathlib.Core.List.{List, [], _∷_}
+use mathlib.Core.List.{List, [], _∷_, map}
 use Prim.Native.Nat.{ℕ, zero, suc, _<_, _≤_}
 use native.Mathlib.Omega.{arith}
 use borrow.Author.Tests.{eq-eqb, ne-eqb}
 use lib.Dec.{eqb}
 use lib.ListN.{length, replicate}
 use Rattle.words.specs.Choice.{if}
+use Rattle.sound.specs.declared.Accesses.{Accesses}
 use Rattle.sound.specs.declared.Channel.{Channel}
-use Rattle.sound.specs.declared.Report.{Report}
-use Rattle.sound.specs.Line.{soundLine}
+use Rattle.sound.specs.Line.{soundReport}
 use Rattle.sound.proofs.Laws.{line-cycles}
 use Rattle.chip.specs.declared.Chip.{Chip}
 use Rattle.chip.specs.declared.Stepped.{Stepped}
@@ -20,36 +20,36 @@ use Rattle.chip.specs.State.{withChannels}
 use Rattle.chip.specs.Step.{stepAnswer, idleReport, stepped, Steps}
 use Rattle.runs.proofs.Asks.{lending, lifetime}
 use Rattle.forecast.specs.Rule.{even}
-use Rattle.forecast.specs.Demand.{channel, Ready, Lent, Run, ended, refused, line}
+use Rattle.forecast.specs.Demand.{channel, Ready, Lent, LineStep, Run, ended, refused, line}
 
 -- the answer that a line step promises
-abbrev pub stepOf : List ℕ → Chip → Stepped
-stepOf ram c =
+abbrev pub stepOf : List ℕ → Accesses → Chip → Stepped
+stepOf ram a c =
     record {
       answer = stepAnswer ram;
       chip = served (stepAnswer ram) (stepped ram c) c;
-      report = served (stepAnswer ram) (soundLine ram (c .sound) .report) idleReport;
+      report = served (stepAnswer ram) (soundReport ram a (c .sound)) idleReport;
     }
 
-pub steps : (ram : List ℕ) (c : Chip) → Steps c ram (stepOf ram c)
+pub steps : (ram : List ℕ) (a : Accesses) (c : Chip) → Steps c ram a (stepOf ram a c)
 unfolding idleReport
-steps ram c = record { answer = refl; chip = refl; report = refl; bound = by-answer (eqb (stepAnswer ram) 0) }
+steps ram a c = record { answer = refl; chip = refl; report = refl; bound = by-answer (eqb (stepAnswer ram) 0) }
   where
-    by-answer : (t : Bool) → (if t (soundLine ram (c .sound) .report) idleReport) .cycles ≤ 28
-    by-answer true = line-cycles ram (c .sound)
+    by-answer : (t : Bool) → (if t (soundReport ram a (c .sound)) idleReport) .cycles ≤ 34
+    by-answer true = line-cycles ram a (c .sound)
     by-answer false = omega arith
 
-module _ {n start : ℕ} {ram : List ℕ} {c d : Chip} {reports : List Report} (lent : List ℕ) where
+module _ {n start : ℕ} {ram : List ℕ} {c d : Chip} {steps' : List LineStep} (lent : List ℕ) (a : Accesses) where
   -- a served line before a run
   abbrev pub line-first :
-      stepAnswer lent ≡ 0 → Lent ram start lent → Run n ram start (stepOf lent c .chip) reports d →
-      Run n ram start c (stepOf lent c .report ∷ reports) d
-  line-first z has rest = line lifetime (lending lent) (stepOf lent c) (steps lent c) z has refl refl rest
+      stepAnswer lent ≡ 0 → Lent ram start lent → Run n ram start (stepOf lent a c .chip) steps' d →
+      Run n ram start c (record { accesses = a; report = stepOf lent a c .report } ∷ steps') d
+  line-first z has rest = line lifetime (lending lent) a (stepOf lent a c) (steps lent a c) z has refl refl rest
 
   -- a refused line before a run
   abbrev pub refused-first :
-      (stepAnswer lent ≡ 0 → ⊥) → Run n ram start (stepOf lent c .chip) reports d → Run n ram start c reports d
-  refused-first no-zero rest = refused lifetime (lending lent) (stepOf lent c) (steps lent c) no-zero refl rest
+      (stepAnswer lent ≡ 0 → ⊥) → Run n ram start (stepOf lent a c .chip) steps' d → Run n ram start c steps' d
+  refused-first no-zero rest = refused lifetime (lending lent) a (stepOf lent a c) (steps lent a c) no-zero refl rest
 
 -- RAM of 65,536 bytes is served, any other refused
 pub full-served : (ram : List ℕ) → length ram ≡ 65536 → stepAnswer ram ≡ 0
@@ -60,14 +60,18 @@ pub part-refused : (ram : List ℕ) → (length ram ≡ 65536 → ⊥) → stepA
 unfolding stepAnswer
 part-refused ram other z = absurd (omega (arith, simp (ne-eqb _ _ other) at z))
 
--- runs of every length: lend the same RAM each time
+-- runs of every length, whatever the processor does on each line: lend the same RAM each time
 pub runs-exist :
-    (n : ℕ) (ram : List ℕ) (start m : ℕ) (c : Chip) → length ram ≡ 65536 →
-    (d : Chip) × (reports : List Report) × Run n ram start c reports d × (length reports ≡ m)
-runs-exist n ram start zero c e = (c, [], ended, refl)
-runs-exist n ram start (suc m) c e =
-    let rest = runs-exist n ram start m (stepOf ram c .chip) e in
-    (rest .0, stepOf ram c .report ∷ rest .1, line-first ram (full-served ram e) (record { words = λ i l. refl }) (rest .2), ap suc (rest .3))
+    (n : ℕ) (ram : List ℕ) (start : ℕ) (accesses : List Accesses) (c : Chip) → length ram ≡ 65536 →
+    (d : Chip) × (ss : List LineStep) × Run n ram start c ss d × (map (λ (s : LineStep). s .accesses) ss ≡ accesses)
+runs-exist n ram start [] c e = (c, [], ended, refl)
+runs-exist n ram start (a ∷ as') c e =
+    let rest = runs-exist n ram start as' (stepOf ram a c .chip) e in (
+      rest .0,
+      record { accesses = a; report = stepOf ram a c .report } ∷ rest .1,
+      line-first ram a (full-served ram e) (record { words = λ i l. refl }) (rest .2),
+      ap (λ (x : List Accesses). a ∷ x) (rest .3),
+    )
 
 -- a channel that is ready, and a chip with all three so
 abbrev readyChannel : ℕ → ℕ → Channel

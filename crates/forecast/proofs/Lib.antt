@@ -12,6 +12,7 @@ pub mod LinePlays
 pub mod Told
 pub mod Trace
 pub mod Plays
+pub mod Disturbed
 pub mod Spares
 pub mod Runs
 pub mod Demands

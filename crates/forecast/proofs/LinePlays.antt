@@ -9,12 +9,13 @@ use Rattle.words.specs.Choice.{if, both}
 use Rattle.words.specs.Words.{kindOf, isLoad, low12, stopBit}
 use Rattle.words.specs.declared.WordKind.{WordKind}
 use Rattle.words.specs.declared.WordKind.the-variants.{Load, Pause, Repeat, Control, Nothing}
+use Rattle.sound.specs.declared.Access.{Access}
 use Rattle.sound.specs.declared.Channel.{Channel}
 use Rattle.sound.specs.declared.Did.{Did}
 use Rattle.sound.specs.declared.Did.the-variants.{SatOut, Executed}
 use Rattle.sound.specs.declared.Turn.{Turn}
 use Rattle.sound.specs.Channels.{wordAt, withPause, fetched, played, turnOf}
-use Rattle.sound.specs.Line.{ownCycles, channelAfter, didOn}
+use Rattle.sound.specs.Line.{disturbance, ownCycles, channelAfter, didOn}
 use Rattle.forecast.specs.Rule.{isPause, isControl, stops, linesOf, cyclesOf, wordsOf, hasStop}
 use Rattle.forecast.specs.Left.{waits, left, linesLeft, cyclesLeft}
 use Rattle.forecast.proofs.Playing.{Playing}
@@ -35,11 +36,11 @@ word-stop w = by-kind (kindOf w)
     by-kind Control = refl
     by-kind Nothing = refl
 
-word-cycles : (w : ℕ) → cyclesOf w ≡ ownCycles (Executed (kindOf w) (low12 w))
+word-cycles : (a : Access) (w : ℕ) → cyclesOf a w ≡ ownCycles a (Executed (kindOf w) (low12 w))
 unfolding cyclesOf
-word-cycles w = by-kind (kindOf w)
+word-cycles a w = by-kind (kindOf w)
   where
-    by-kind : (k : WordKind) → if (isLoad k) 9 2 ≡ ownCycles (Executed k (low12 w))
+    by-kind : (k : WordKind) → if (isLoad k) (9 + disturbance a) 2 ≡ ownCycles a (Executed k (low12 w))
     by-kind Load = refl
     by-kind Pause = refl
     by-kind Repeat = refl
@@ -64,13 +65,13 @@ stop-line n w s = by-kind (kindOf w) s
 pub record Stops (ram : List ℕ) (c d : Channel) (r : Did) : Type 0 where
   pub stop : didStop r ≡ true
   pub lines : linesLeft ram c ≡ 1
-  pub cycles : cyclesLeft ram c ≡ ownCycles r
+  pub cycles : (a : Access) → cyclesLeft a ram c ≡ ownCycles a r
   pub enabled : d .enabled ≡ false
 
 pub record Plays (ram : List ℕ) (start : ℕ) (c d : Channel) (r : Did) : Type 0 where
   pub stop : didStop r ≡ false
   pub lines : linesLeft ram c ≡ suc (linesLeft ram d)
-  pub cycles : cyclesLeft ram c ≡ ownCycles r + cyclesLeft ram d
+  pub cycles : (a : Access) → cyclesLeft a ram c ≡ ownCycles a r + cyclesLeft a ram d
   pub playing : Playing ram start d
 
 pub data Line (ram : List ℕ) (start : ℕ) (c d : Channel) (r : Did) : Type 0 where
@@ -105,7 +106,7 @@ module _ (ram : List ℕ) (start : ℕ) (listed : hasStop (wordsOf ram start) �
           lines =
               omega
               (arith, none, word-stops ram start listed c p (linesOf (c .prescale)) s, stop-line (c .prescale) (wordAt ram (c .address)) s);
-          cycles = word-stops ram start listed c p cyclesOf s ∙ word-cycles _;
+          cycles = λ a. word-stops ram start listed c p (cyclesOf a) s ∙ word-cycles a _;
           enabled = stop-clears _ _ s;
         }
 
@@ -118,7 +119,7 @@ module _ (ram : List ℕ) (start : ℕ) (listed : hasStop (wordsOf ram start) �
           lines =
               rw (same-prescale (withPause c 0 q) (wordAt ram (c .address)))
               (omega (arith, none, f .falls (linesOf (c .prescale)), word-lines (c .prescale) (wordAt ram (c .address)) (withPause c 0 q) refl));
-          cycles = f .falls cyclesOf ∙ rw word-cycles;
+          cycles = λ a. f .falls (cyclesOf a) ∙ rw word-cycles;
           playing = f .playing;
         }
 
@@ -132,7 +133,7 @@ module _ (ram : List ℕ) (start : ℕ) (listed : hasStop (wordsOf ram start) �
       Plays ram start c (withPause c (suc n) q) SatOut
   unfolding left linesLeft cyclesLeft
   sit-plays n q e =
-      record { stop = refl; lines = omega arith; cycles = omega arith; playing = paused-there (suc n) q }
+      record { stop = refl; lines = omega arith; cycles = λ a. omega arith; playing = paused-there (suc n) q }
 
   -- the next word is the same in lent RAM
   same-word : (lent : List ℕ) → Lent ram start lent → wordAt lent (c .address) ≡ wordAt ram (c .address)

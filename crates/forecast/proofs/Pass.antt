@@ -10,6 +10,10 @@ use Rattle.words.specs.Choice.{if, both}
 use Rattle.words.specs.Words.{kindOf, isLoad, low12, loopBit}
 use Rattle.words.specs.declared.WordKind.{WordKind}
 use Rattle.words.specs.declared.WordKind.the-variants.{Load, Pause, Repeat, Control, Nothing}
+use Rattle.sound.specs.declared.Access.{Access}
+use Rattle.sound.specs.declared.Access.the-variants.{Off, PsgWrite}
+use Rattle.sound.specs.Line.{disturbance}
+use Rattle.sound.proofs.Laws.{two-at-most}
 use Rattle.sound.specs.Channels.{wordAt}
 use Rattle.forecast.specs.declared.Scan.{Scan}
 use Rattle.forecast.specs.declared.Sums.{Sums}
@@ -44,10 +48,10 @@ lines-small prescale w h =
     let q : 1 ≤ 2 ^ 20 = omega arith in
     if-le (both (isPause (kindOf w)) (ltb 0 (low12 w))) _ _ _ p q
 
-pub cycles-small : (w : ℕ) → cyclesOf w ≤ 2 ^ 20
+pub cycles-small : (a : Access) (w : ℕ) → cyclesOf a w ≤ 2 ^ 20
 unfolding cyclesOf
-cycles-small w =
-    let p : 9 ≤ 2 ^ 20 = omega arith in
+cycles-small a w =
+    let p : 9 + disturbance a ≤ 2 ^ 20 = omega (arith, two-at-most a) in
     let q : 2 ≤ 2 ^ 20 = omega arith in
     if-le (isLoad (kindOf w)) _ _ _ p q
 
@@ -149,11 +153,12 @@ module _ (cost : ℕ → ℕ) (ram : List ℕ) (first : ℕ) where
               bounded = omega arith;
             })
 
--- the pass at an address: both sums, and a count that a REPEAT can hold
+-- the pass at an address: the sums, and a count that a REPEAT can hold
 pub record Scanned (ram : List ℕ) (prescale first a : ℕ) (s : Scan) : Type 0 where
   pub walked : Walked ram first a
   pub lines : Summed (linesOf prescale) ram first a (s .count) (s .lines)
-  pub cycles : Summed cyclesOf ram first a (s .count) (s .cycles)
+  pub cycles : Summed (cyclesOf Off) ram first a (s .count) (s .cycles)
+  pub most : Summed (cyclesOf PsgWrite) ram first a (s .count) (s .most)
   pub count : s .count < 4096
 
 -- the sums before the first word
@@ -162,12 +167,13 @@ none = record { total = 0; since = 0 }
 
 module _ (ram : List ℕ) (prescale first : ℕ) where
   pub scanned-none :
-      first ≤ 65536 → Scanned ram prescale first first (record { lines = none; cycles = none; count = 0 })
+      first ≤ 65536 → Scanned ram prescale first first (record { lines = none; cycles = none; most = none; count = 0 })
   scanned-none h =
       record {
         walked = walked-none ram first h;
         lines = summed-none (linesOf prescale) ram first;
-        cycles = summed-none cyclesOf ram first;
+        cycles = summed-none (cyclesOf Off) ram first;
+        most = summed-none (cyclesOf PsgWrite) ram first;
         count = omega arith;
       }
 
@@ -177,18 +183,21 @@ module _ (ram : List ℕ) (prescale first : ℕ) where
     scanned-open =
         record {
           lines = summed-room (linesOf prescale) ram first a (s .count) (s .lines) (i .lines) inside;
-          cycles = summed-room cyclesOf ram first a (s .count) (s .cycles) (i .cycles) inside;
+          cycles = summed-room (cyclesOf Off) ram first a (s .count) (s .cycles) (i .cycles) inside;
+          most = summed-room (cyclesOf PsgWrite) ram first a (s .count) (s .most) (i .most) inside;
           count = omega arith;
         }
 
-    -- at the STOP both sums are whole
+    -- at the STOP the sums are whole
     pub scanned-stop :
         stops (wordAt ram a) ≡ true →
         (passed prescale (wordAt ram a) s .lines .total ≡ total (linesOf prescale) 0 (wordsOf ram first))
-        × (passed prescale (wordAt ram a) s .cycles .total ≡ total cyclesOf 0 (wordsOf ram first))
+        × (passed prescale (wordAt ram a) s .cycles .total ≡ total (cyclesOf Off) 0 (wordsOf ram first))
+        × (passed prescale (wordAt ram a) s .most .total ≡ total (cyclesOf PsgWrite) 0 (wordsOf ram first))
     scanned-stop h = (
       summed-stop (linesOf prescale) ram first a (s .count) (s .lines) (i .lines) inside h,
-      summed-stop cyclesOf ram first a (s .count) (s .cycles) (i .cycles) inside h,
+      summed-stop (cyclesOf Off) ram first a (s .count) (s .cycles) (i .cycles) inside h,
+      summed-stop (cyclesOf PsgWrite) ram first a (s .count) (s .most) (i .most) inside h,
     )
 
     -- at any other word
@@ -202,7 +211,10 @@ module _ (ram : List ℕ) (prescale first : ℕ) where
               summed-more (linesOf prescale) ram first a (s .count) (s .lines) (i .lines) inside h (i .count)
               (lines-small prescale (wordAt ram a) p);
           cycles =
-              summed-more cyclesOf ram first a (s .count) (s .cycles) (i .cycles) inside h (i .count)
-              (cycles-small (wordAt ram a));
+              summed-more (cyclesOf Off) ram first a (s .count) (s .cycles) (i .cycles) inside h (i .count)
+              (cycles-small Off (wordAt ram a));
+          most =
+              summed-more (cyclesOf PsgWrite) ram first a (s .count) (s .most) (i .most) inside h (i .count)
+              (cycles-small PsgWrite (wordAt ram a));
           count = open-small (s .count) (wordAt ram a) (i .count);
         }

@@ -5,22 +5,23 @@ use mathlib.Core.List.{List, [], _∷_}
 use Prim.Native.Nat.{ℕ, zero, suc, _<_}
 use native.Mathlib.Omega.{arith}
 use lib.ListN.{length, getD}
+use Rattle.sound.specs.declared.Access.{Access}
 use Rattle.sound.specs.declared.Channel.{Channel}
 use Rattle.sound.specs.declared.Did.{Did}
 use Rattle.sound.specs.declared.Did.the-variants.{SatOut}
 use Rattle.sound.specs.declared.Turn.{Turn}
 use Rattle.sound.specs.Line.{channelAfter, didOn}
 use Rattle.chip.specs.Channels.{Aside}
-use Rattle.forecast.specs.Rule.{cyclesOf, wordsOf, total, hasStop, even, linesForecast, cyclesForecast}
+use Rattle.forecast.specs.Rule.{cyclesOf, wordsOf, total, hasStop, even, linesForecast, cyclesMeeting}
 use Rattle.forecast.specs.Left.{waits, left, linesLeft, cyclesLeft}
 use Rattle.forecast.proofs.Playing.{Playing}
-use Rattle.forecast.specs.Demand.{didSit, Foretold, Ready}
+use Rattle.forecast.specs.Demand.{didSit, Ready}
 use Rattle.forecast.proofs.Trace.{Trace, ended, aside, line}
 use Rattle.forecast.proofs.Ahead.{ahead-total}
 use Rattle.forecast.proofs.Words.{some-word}
 use Rattle.forecast.proofs.Waits.{Counts, acts, sits, counts, turn-acts}
 use Rattle.forecast.proofs.LinePlays.{Line, stops-there, plays-on, line-plays}
-use Rattle.forecast.proofs.Told.{Told, told-none, told-stop, told-more}
+use Rattle.forecast.proofs.Told.{Told, told-none, told-stop, told-more, told-same}
 
 -- runs of every length exist: lend the same RAM each time
 pub runs : (ram : List ℕ) (start m : ℕ) (c : Channel) → (ds : List Did) × Trace ram start c ds × (length ds ≡ m)
@@ -49,9 +50,9 @@ module _ (ram : List ℕ) (start : ℕ) where
   unfolding linesLeft
   lines-aside a = rw (left-aside a, a .alone .prescale, a .keeps .pause, a .keeps .count)
 
-  pub cycles-aside : {c d : Channel} → Aside c d → cyclesLeft ram d ≡ cyclesLeft ram c
+  pub cycles-aside : {c d : Channel} → Aside c d → (x : Access) → cyclesLeft x ram d ≡ cyclesLeft x ram c
   unfolding cyclesLeft
-  cycles-aside a = left-aside a _
+  cycles-aside a x = left-aside a _
 
   -- with no pause the first report is an instruction
   first-acts : {c : Channel} {ds : List Did} → c .enabled ≡ true → c .pause ≡ 0 → Trace ram start c ds → 0 < length ds → didSit (getD ds 0 SatOut) ≡ false
@@ -68,11 +69,11 @@ module _ (ram : List ℕ) (start : ℕ) where
     -- one report, and the rest as foretold for the channel after it
     line-told :
         {c d : Channel} {r : Did} {ds : List Did} →
-        Line ram start c d r → (Playing ram start d → (0 < linesLeft ram d) × Told (linesLeft ram d) (cyclesLeft ram d) ds) →
-        Told (linesLeft ram c) (cyclesLeft ram c) (r ∷ ds)
-    line-told (stops-there h) rest = rw (h .lines, h .cycles) (told-stop _ _ (h .stop))
+        Line ram start c d r → (Playing ram start d → (0 < linesLeft ram d) × Told (linesLeft ram d) (λ a. cyclesLeft a ram d) ds) →
+        Told (linesLeft ram c) (λ a. cyclesLeft a ram c) (r ∷ ds)
+    line-told (stops-there h) rest = rw (h .lines) (told-stop _ _ _ (h .cycles) (h .stop))
     line-told (plays-on h) rest =
-        rw (h .lines, h .cycles) (told-more _ _ _ _ (rest (h .playing) .0) (h .stop) (rest (h .playing) .1))
+        rw (h .lines) (told-more _ _ _ _ _ (h .cycles) (rest (h .playing) .0) (h .stop) (rest (h .playing) .1))
 
     -- a line is always left
     pub line-left : (c : Channel) → Playing ram start c → 0 < linesLeft ram c
@@ -83,9 +84,9 @@ module _ (ram : List ℕ) (start : ℕ) where
         by-line (plays-on h) = omega (arith, h .lines)
 
     -- the reports of a channel that plays, from wherever it is
-    pub trace-told : {c : Channel} {ds : List Did} → Playing ram start c → Trace ram start c ds → Told (linesLeft ram c) (cyclesLeft ram c) ds
+    pub trace-told : {c : Channel} {ds : List Did} → Playing ram start c → Trace ram start c ds → Told (linesLeft ram c) (λ a. cyclesLeft a ram c) ds
     trace-told p ended = told-none _ _ (line-left _ p)
-    trace-told p (aside a t) = rw (lines-aside a, cycles-aside a) at (trace-told (playing-aside a p) t)
+    trace-told p (aside a t) = told-same (lines-aside a) (cycles-aside a) (trace-told (playing-aside a p) t)
     trace-told p (line {c = c} lent l e f t) =
         rw f (line-told (rw (← e) at (line-plays ram start listed c p lent l)) (λ q. (line-left _ q, trace-told q t)))
 
@@ -99,9 +100,9 @@ module _ (ram : List ℕ) (start n : ℕ) (c : Channel) (ready : Ready start n c
   unfolding linesLeft linesForecast waits
   ready-lines = rw (ready-left, ready .divides, ready .pause) (omega arith)
 
-  pub ready-cycles : cyclesLeft ram c ≡ cyclesForecast ram start
-  unfolding cyclesLeft cyclesForecast
-  ready-cycles = ready-left cyclesOf
+  pub ready-cycles : (a : Access) → cyclesLeft a ram c ≡ cyclesMeeting a ram start
+  unfolding cyclesLeft cyclesMeeting
+  ready-cycles a = ready-left (cyclesOf a)
 
   pub ready-playing : hasStop (wordsOf ram (even start)) ≡ true → Playing ram (even start) c
   ready-playing listed =
@@ -113,18 +114,18 @@ module _ (ram : List ℕ) (start n : ℕ) (c : Channel) (ready : Ready start n c
         since = λ h. absurd (omega (arith, h, ready .counter));
       }
 
--- demand 3 over one channel
+-- demand 3 over one channel, but for the cycles of lines that meet different accesses: what is told, and the first report
+pub record Plain (lines : ℕ) (cycles : Access → ℕ) (ds : List Did) : Type 0 where
+  pub told : Told lines cycles ds
+  pub first : 0 < length ds → didSit (getD ds 0 SatOut) ≡ false
+
 pub plays :
     (ram : List ℕ) (start n : ℕ) (c : Channel) (ds : List Did) → hasStop (wordsOf ram (even start)) ≡ true → Ready start n c →
-    Trace ram (even start) c ds → Foretold (linesForecast ram start n) (cyclesForecast ram start) ds
+    Trace ram (even start) c ds → Plain (linesForecast ram start n) (λ a. cyclesMeeting a ram start) ds
 plays ram start n c ds listed ready t =
-    let told : Told (linesForecast ram start n) (cyclesForecast ram start) ds =
-    rw (ready-lines ram start n c ready, ready-cycles ram start n c ready) at
-    (trace-told ram (even start) listed (ready-playing ram start n c ready listed) t) in
     record {
-      stopped = told .stopped;
+      told =
+          told-same (ready-lines ram start n c ready) (ready-cycles ram start n c ready)
+          (trace-told ram (even start) listed (ready-playing ram start n c ready listed) t);
       first = first-acts ram (even start) (ready .enabled) (ready .pause) t;
-      before = told .before;
-      last = told .last;
-      cost = told .cost;
     }

@@ -9,14 +9,17 @@ use contract.Lifetimes.{Lfts}
 use denote.Ref.{RefT, now}
 use Rattle.words.specs.Answers.{done}
 use Rattle.words.specs.Choice.{either, bit}
-use Rattle.words.specs.Words.{stopBit}
+use Rattle.words.specs.Words.{isLoad, stopBit}
 use Rattle.words.specs.declared.WordKind.the-variants.{Load, Pause, Repeat, Control, Nothing}
+use Rattle.sound.specs.declared.Access.{Access}
+use Rattle.sound.specs.declared.Access.the-variants.{Off, PsgWrite}
+use Rattle.sound.specs.declared.Accesses.{Accesses}
 use Rattle.sound.specs.declared.Channel.{Channel}
 use Rattle.sound.specs.declared.Did.{Did}
 use Rattle.sound.specs.declared.Did.the-variants.{SatOut, Executed}
 use Rattle.sound.specs.declared.Report.{Report}
 use Rattle.sound.specs.Channels.{wordAt}
-use Rattle.sound.specs.Line.{channelOf, didOf, ownCycles}
+use Rattle.sound.specs.Line.{channelOf, didOf, accessOf, ownCycles, taken}
 use Rattle.chip.specs.declared.Chip.{Chip}
 use Rattle.chip.specs.declared.Stepped.{Stepped}
 use Rattle.chip.specs.Channels.{LeftAlone}
@@ -67,32 +70,45 @@ Spares n c (write store a b) = NotWritten n (channel c n) a b
 Spares n c (undo store places) = NotWritten n (channel c n) (entryAddress (newest c places)) (entryContents (newest c places))
 Spares n c ack = Unit {0}
 
+-- ---- a served line step: what the processor did at the 8255 for each channel, and the report
+pub record LineStep : Type 0 where
+  pub accesses : Accesses
+  pub report : Report
+
 -- ---- the run, for channel n and the list at a start: each call gets the chip that the last one left. What the calls between the lines
 -- must not do is asked by its effect, `LeftAlone`: address and prescale are as before, and an enable that was set still is. A law says
--- that a served call which spares the channel by its arguments does so. `reports` are those of the served line steps, in order
-pub data Run (n : ℕ) (ram : List ℕ) (start : ℕ) : Chip → List Report → Chip → Type 0 where
+-- that a served call which spares the channel by its arguments does so. The processor may do at the 8255 whatever it likes. `steps` are
+-- the served line steps, in order
+pub data Run (n : ℕ) (ram : List ℕ) (start : ℕ) : Chip → List LineStep → Chip → Type 0 where
   ended : {c : Chip} → Run n ram start c [] c
   other :
-      {c d e : Chip} {reports : List Report} (answer : ℕ) →
-      Call c answer d → (answer ≡ done → LeftAlone (channel c n) (channel d n)) → Run n ram start d reports e →
-      Run n ram start c reports e
+      {c d e : Chip} {steps : List LineStep} (answer : ℕ) →
+      Call c answer d → (answer ≡ done → LeftAlone (channel c n) (channel d n)) → Run n ram start d steps e →
+      Run n ram start c steps e
   refused :
-      {c d e : Chip} {reports : List Report} (κs : Lfts 1) (lent : RefT (List ℕ)) (r : Stepped) →
-      step.Learnt κs (c, (lent, tt)) r (c, (lent, tt)) →
-      (r .answer ≡ done → ⊥) → r .chip ≡ d → Run n ram start d reports e → Run n ram start c reports e
+      {c d e : Chip} {steps : List LineStep} (κs : Lfts 1) (lent : RefT (List ℕ)) (a : Accesses) (r : Stepped) →
+      step.Learnt κs (c, (lent, (a, tt))) r (c, (lent, (a, tt))) →
+      (r .answer ≡ done → ⊥) → r .chip ≡ d → Run n ram start d steps e → Run n ram start c steps e
   line :
-      {c d e : Chip} {report : Report} {reports : List Report} (κs : Lfts 1) (lent : RefT (List ℕ)) (r : Stepped) →
-      step.Learnt κs (c, (lent, tt)) r (c, (lent, tt)) →
+      {c d e : Chip} {report : Report} {steps : List LineStep} (κs : Lfts 1) (lent : RefT (List ℕ)) (a : Accesses) (r : Stepped) →
+      step.Learnt κs (c, (lent, (a, tt))) r (c, (lent, (a, tt))) →
       r .answer ≡ done → Lent ram start (now lent) → r .chip ≡ d → r .report ≡ report →
-      Run n ram start d reports e → Run n ram start c (report ∷ reports) e
+      Run n ram start d steps e → Run n ram start c (record { accesses = a; report = report } ∷ steps) e
 
--- ---- what the channel executed is what the steps report of it; `ownCycles` of a report is what it cost the channel itself
+-- ---- what the channel executed is what the steps report of it; `ownCycles` of an access and a report is what it cost the channel itself
+
+-- what channel n did on a line, and what the processor did there
+abbrev pub didIn : ℕ → LineStep → Did
+didIn n s = didOf (s .report .entries) n
+
+abbrev pub accessIn : ℕ → LineStep → Access
+accessIn n s = accessOf (s .accesses) n
 
 -- what channel n did on each served line
-abbrev pub didOver : ℕ → List Report → List Did
-didOver n reports = map (λ (r : Report). didOf (r .entries) n) reports
+abbrev pub didOver : ℕ → List LineStep → List Did
+didOver n steps = map (didIn n) steps
 
--- the report says that a STOP was executed; that the channel sat out
+-- the report says that a STOP was executed; that the channel sat out; that a LOAD was executed
 abbrev pub didStop : Did → Bool
 didStop SatOut = false
 didStop (Executed Load n) = false
@@ -105,34 +121,54 @@ abbrev pub didSit : Did → Bool
 didSit SatOut = true
 didSit (Executed k n) = false
 
+abbrev pub didLoad : Did → Bool
+didLoad SatOut = false
+didLoad (Executed k n) = isLoad k
+
 -- a STOP among the reports
 unfoldable pub anyStop : List Did → Bool
 anyStop [] = false
 anyStop (d ∷ ds) = either (didStop d) (anyStop ds)
 
--- the channel's own cycles over the reports
-unfoldable pub ownOver : List Did → ℕ
-ownOver [] = 0
-ownOver (d ∷ ds) = ownCycles d + ownOver ds
+-- channel n's own cycles over the steps, and what the processor took from its LOADs there
+unfoldable pub ownOver : ℕ → List LineStep → ℕ
+ownOver n [] = 0
+ownOver n (s ∷ ss) = ownCycles (accessIn n s) (didIn n s) + ownOver n ss
+
+unfoldable pub takenOver : ℕ → List LineStep → ℕ
+takenOver n [] = 0
+takenOver n (s ∷ ss) = taken (accessIn n s) (didIn n s) + takenOver n ss
+
+-- each LOAD of channel n meets this access
+unfoldable pub LoadsMeet : Access → ℕ → List LineStep → Type 0
+LoadsMeet a n [] = Unit {0}
+LoadsMeet a n (s ∷ ss) = (didLoad (didIn n s) ≡ true → accessIn n s ≡ a) × LoadsMeet a n ss
 
 -- ---- the claim: a STOP was executed exactly if the run has at least so many served line steps; the first instruction came on the
 -- first of them; the first STOP on the one of that number; from the one line through the other the channel's own cycles are so many
-pub record Foretold (lines cycles : ℕ) (ds : List Did) : Type 0 where
-  pub stopped : anyStop ds ≡ leb lines (length ds)
-  pub first : 0 < length ds → didSit (getD ds 0 SatOut) ≡ false
-  pub before : (i : ℕ) → i + 1 < lines → didStop (getD ds i SatOut) ≡ false
-  pub last : lines ≤ length ds → didStop (getD ds (lines - 1) SatOut) ≡ true
-  pub cost : lines ≤ length ds → ownOver (take lines ds) ≡ cycles
+-- and what the processor took from its LOADs there. So they are at least `cycles`, at most `most`, and `cycles` exactly if no LOAD of
+-- the channel through that STOP was disturbed; and they are `most` where each of them met a PSG register write
+pub record Foretold (lines cycles most n : ℕ) (steps : List LineStep) : Type 0 where
+  pub stopped : anyStop (didOver n steps) ≡ leb lines (length steps)
+  pub first : 0 < length steps → didSit (getD (didOver n steps) 0 SatOut) ≡ false
+  pub before : (i : ℕ) → i + 1 < lines → didStop (getD (didOver n steps) i SatOut) ≡ false
+  pub last : lines ≤ length steps → didStop (getD (didOver n steps) (lines - 1) SatOut) ≡ true
+  pub cost : lines ≤ length steps → ownOver n (take lines steps) ≡ cycles + takenOver n (take lines steps)
+  pub least : lines ≤ length steps → cycles ≤ ownOver n (take lines steps)
+  pub at-most : lines ≤ length steps → ownOver n (take lines steps) ≤ most
+  pub undisturbed : lines ≤ length steps → LoadsMeet Off n (take lines steps) → ownOver n (take lines steps) ≡ cycles
+  pub only-so : lines ≤ length steps → ownOver n (take lines steps) ≡ cycles → LoadsMeet Off n (take lines steps)
+  pub met : lines ≤ length steps → LoadsMeet PsgWrite n (take lines steps) → ownOver n (take lines steps) ≡ most
 
--- no line takes over 28 cycles
-unfoldable pub Bounded : List Report → Type 0
+-- no line takes over 34 cycles
+unfoldable pub Bounded : List LineStep → Type 0
 Bounded [] = Unit {0}
-Bounded (r ∷ rs) = (r .cycles ≤ 28) × Bounded rs
+Bounded (s ∷ ss) = (s .report .cycles ≤ 34) × Bounded ss
 
 -- ---- demand 3: so for each of the three channels, whatever the others play, and for every run
-pub record Demand (ram : List ℕ) (start prescale lines cycles : ℕ) : Type 0 where
+pub record Demand (ram : List ℕ) (start prescale lines cycles most : ℕ) : Type 0 where
   pub foretold :
-      (n : ℕ) → n < 3 → (c d : Chip) (reports : List Report) →
-      Ready start prescale (channel c n) → Run n ram (even start) c reports d → Foretold lines cycles (didOver n reports)
+      (n : ℕ) → n < 3 → (c d : Chip) (steps : List LineStep) →
+      Ready start prescale (channel c n) → Run n ram (even start) c steps d → Foretold lines cycles most n steps
   pub bounded :
-      (n : ℕ) (c d : Chip) (reports : List Report) → Run n ram (even start) c reports d → Bounded reports
+      (n : ℕ) (c d : Chip) (steps : List LineStep) → Run n ram (even start) c steps d → Bounded steps

@@ -7,6 +7,7 @@ use Prim.Native.Nat.{ℕ, zero, suc, _+_, _-_, _*_, _/_, _<_}
 use lib.ListN.{length}
 use Rattle.words.specs.Choice.{if}
 use Rattle.sound.specs.Channels.{wordAt}
+use Rattle.sound.specs.declared.Access.{Access}
 use Rattle.sound.specs.declared.Channel.{Channel}
 use Rattle.forecast.specs.Rule.{stops, loops, repeats, linesOf, cyclesOf, wordsOf, closes, total}
 
@@ -38,6 +39,6 @@ left cost ram c =
 unfoldable pub linesLeft : List ℕ → Channel → ℕ
 linesLeft ram c = waits (c .prescale) (c .pause) (c .count) + left (linesOf (c .prescale)) ram c
 
--- and the channel's own cycles
-unfoldable pub cyclesLeft : List ℕ → Channel → ℕ
-cyclesLeft ram c = left cyclesOf ram c
+-- and the channel's own cycles, if each pass of a LOAD meets this access
+unfoldable pub cyclesLeft : Access → List ℕ → Channel → ℕ
+cyclesLeft a ram c = left (cyclesOf a) ram c

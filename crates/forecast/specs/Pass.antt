@@ -4,6 +4,7 @@ use mathlib.Core.List.{List}
 use Prim.Native.Nat.{ℕ, _+_, _*_, _^_, _≤_}
 use lib.ListN.{length}
 use Rattle.words.specs.Choice.{if}
+use Rattle.sound.specs.declared.Access.the-variants.{Off, PsgWrite}
 use Rattle.forecast.specs.declared.Scan.{Scan}
 use Rattle.forecast.specs.declared.Sums.{Sums}
 use Rattle.forecast.specs.Rule.{repeats, loops, stops, linesOf, cyclesOf, wordsOf, hasStop, openCount}
@@ -21,7 +22,8 @@ abbrev pub passed : ℕ → ℕ → Scan → Scan
 passed prescale w s =
     record {
       lines = added w (s .count) (linesOf prescale w) (s .lines);
-      cycles = added w (s .count) (cyclesOf w) (s .cycles);
+      cycles = added w (s .count) (cyclesOf Off w) (s .cycles);
+      most = added w (s .count) (cyclesOf PsgWrite w) (s .most);
       count = openCount (s .count) w;
     }
 
@@ -34,6 +36,7 @@ pub record Room (s : Sums) : Type 0 where
 pub record Open (s : Scan) : Type 0 where
   pub lines : Room (s .lines)
   pub cycles : Room (s .cycles)
+  pub most : Room (s .most)
   pub count : s .count ≤ 4095
 
 -- the bytes of the list from an address through its STOP, 0 where none stands

@@ -9,7 +9,10 @@ use Rattle.words.specs.Answers.{done, wrongLength, noStop}
 use Rattle.words.specs.Words.{kindOf, isLoad, low12, loopBit, stopBit}
 use Rattle.words.specs.declared.WordKind.{WordKind}
 use Rattle.words.specs.declared.WordKind.the-variants.{Load, Pause, Repeat, Control, Nothing}
+use Rattle.sound.specs.declared.Access.{Access}
+use Rattle.sound.specs.declared.Access.the-variants.{Off, PsgWrite}
 use Rattle.sound.specs.Channels.{wordAt}
+use Rattle.sound.specs.Line.{disturbance}
 
 -- a word's kind, asked
 abbrev pub isPause : WordKind → Bool
@@ -47,9 +50,9 @@ stops w = both (isControl (kindOf w)) (stopBit (low12 w))
 unfoldable pub linesOf : ℕ → ℕ → ℕ
 linesOf prescale w = if (both (isPause (kindOf w)) (ltb 0 (low12 w))) (low12 w * (prescale + 1)) 1
 
--- 9 cycles for a LOAD, 2 for another word
-unfoldable pub cyclesOf : ℕ → ℕ
-cyclesOf w = if (isLoad (kindOf w)) 9 2
+-- 9 cycles for a LOAD, and what the processor takes from it where it meets this access; 2 for another word
+unfoldable pub cyclesOf : Access → ℕ → ℕ
+cyclesOf a w = if (isLoad (kindOf w)) (9 + disturbance a) 2
 
 -- at most so many words from an address on, through the first STOP
 unfoldable pub wordsFrom : List ℕ → ℕ → ℕ → List ℕ
@@ -87,12 +90,20 @@ total cost k (w ∷ ws) = passes k (w ∷ ws) * cost w + total cost (openCount k
 abbrev pub even : ℕ → ℕ
 even start = start / 2 * 2
 
--- the forecast's lines and cycles
+-- the forecast's lines
 unfoldable pub linesForecast : List ℕ → ℕ → ℕ → ℕ
 linesForecast ram start prescale = total (linesOf prescale) 0 (wordsOf ram (even start))
 
-unfoldable pub cyclesForecast : List ℕ → ℕ → ℕ
-cyclesForecast ram start = total cyclesOf 0 (wordsOf ram (even start))
+-- the cycles if each pass of a LOAD meets this access
+unfoldable pub cyclesMeeting : Access → List ℕ → ℕ → ℕ
+cyclesMeeting a ram start = total (cyclesOf a) 0 (wordsOf ram (even start))
+
+-- the least possible, and the most possible: two more for each pass of a LOAD
+abbrev pub cyclesForecast : List ℕ → ℕ → ℕ
+cyclesForecast ram start = cyclesMeeting Off ram start
+
+abbrev pub mostForecast : List ℕ → ℕ → ℕ
+mostForecast ram start = cyclesMeeting PsgWrite ram start
 
 -- 1 for RAM of another length, 6 where no STOP stands from the start to FFFEh, exactly then
 unfoldable pub answerOf : List ℕ → ℕ → ℕ

@@ -1,4 +1,5 @@
 // The forecast of a sound list: its lines and cycles before it plays.
+use sound::Access;
 use words::WordKind;
 use words::answer::DONE;
 use words::answer::NO_STOP;
@@ -18,11 +19,12 @@ const RAM_BYTES: usize = 65536;
 // The address of its last word, FFFEh.
 const LAST_WORD: usize = 65534;
 
-// What the forecast answers: a number of the table, and where it is 0 the list's lines and cycles.
+// What the forecast answers: a number of the table, and where it is 0 the list's lines, the least cycles and the most.
 pub struct Length {
     pub answer: u8,
     pub lines: u64,
     pub cycles: u64,
+    pub most: u64,
 }
 
 // Whether the kind is that of a PAUSE.
@@ -99,12 +101,12 @@ fn lines_of(word: u16, prescale: u8) -> u64
     low as u64 * (prescale as u64 + 1)
 }
 
-// The cycles of one pass of a word.
-fn cycles_of(word: u16) -> u64
-    ensures { λ r. ⌜ r ≡ cyclesOf word ⌝ }
+// The cycles of one pass of a word, if a LOAD meets this access.
+fn cycles_of(word: u16, access: Access) -> u64
+    ensures { λ r. ⌜ r ≡ cyclesOf access word ⌝ }
 {
     if words::is_load(words::kind_of(word)) {
-        return 9;
+        return 9 + sound::disturbance(access) as u64;
     }
     2
 }
@@ -156,10 +158,11 @@ impl Sums {
     }
 }
 
-// The pass over the words so far: both sums, and the open count.
+// The pass over the words so far: the sums, and the open count.
 struct Scan {
     lines: Sums,
     cycles: Sums,
+    most: Sums,
     count: u16,
 }
 
@@ -173,10 +176,13 @@ impl Scan {
         let lines_so_far = self.lines;
         let lines = lines_so_far.added(word, count, lines_of(word, prescale));
         let cycles_so_far = self.cycles;
-        let cycles = cycles_so_far.added(word, count, cycles_of(word));
+        let cycles = cycles_so_far.added(word, count, cycles_of(word, Access::Off));
+        let most_so_far = self.most;
+        let most = most_so_far.added(word, count, cycles_of(word, Access::PsgWrite));
         Scan {
             lines,
             cycles,
+            most,
             count: open_count(count, word),
         }
     }
@@ -184,16 +190,17 @@ impl Scan {
 
 // A refusal.
 fn refused(answer: u8) -> Length
-    ensures { λ r. ⌜ (r .answer ≡ answer) × (r .lines ≡ 0) × (r .cycles ≡ 0) ⌝ }
+    ensures { λ r. ⌜ (r .answer ≡ answer) × (r .lines ≡ 0) × (r .cycles ≡ 0) × (r .most ≡ 0) ⌝ }
 {
     Length {
         answer,
         lines: 0,
         cycles: 0,
+        most: 0,
     }
 }
 
-// The lines and cycles of the list at a start address, before it plays.
+// The lines of the list at a start address, and the least and the most cycles, before it plays.
 pub fn forecast(ram: &[u8], start: u16, prescale: u8) -> Length
     ensures { λ r. ⌜ Forecasts (now (ram .entry)) start prescale r ⌝ }
 {
@@ -204,6 +211,7 @@ pub fn forecast(ram: &[u8], start: u16, prescale: u8) -> Length
     let mut scan = Scan {
         lines: none,
         cycles: none,
+        most: none,
         count: 0,
     };
     let mut at = start as usize / 2 * 2;
@@ -215,6 +223,7 @@ pub fn forecast(ram: &[u8], start: u16, prescale: u8) -> Length
                 answer: DONE,
                 lines: scan.lines.total,
                 cycles: scan.cycles.total,
+                most: scan.most.total,
             };
         }
         at += 2;

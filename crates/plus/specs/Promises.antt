@@ -3,8 +3,9 @@ use mathlib.Core.Path.{_≡_}
 use mathlib.Core.List.{List, []}
 use Prim.Native.Nat.{ℕ, _≤_}
 use lib.ListN.{length, take, drop}
+use Rattle.sound.specs.declared.Accesses.{Accesses}
 use Rattle.sound.specs.declared.Report.{Report}
-use Rattle.sound.specs.Line.{soundLine}
+use Rattle.sound.specs.Line.{soundReport}
 use Rattle.chip.specs.declared.Chip.{Chip}
 use Rattle.words.specs.Answers.{served}
 use Rattle.chip.specs.Step.{stepAnswer, stepped, idleReport}
@@ -16,21 +17,21 @@ use Rattle.plus.specs.declared.PlusLength.{PlusLength}
 use Rattle.plus.specs.Report.{kindsOf, lowsOf}
 
 -- the report of a line step: the line's, or that of a refusal
-abbrev pub reportOf : Chip → List ℕ → Report
-reportOf c ram = served (stepAnswer ram) (soundLine ram (c .sound) .report) idleReport
+abbrev pub reportOf : Chip → List ℕ → Accesses → Report
+reportOf c ram a = served (stepAnswer ram) (soundReport ram a (c .sound)) idleReport
 
--- the line step; no line costs over 28 cycles
-pub record StepReported (c : Chip) (ram : List ℕ) (r : PlusStepped) : Type 0 where
+-- the line step; no line costs over 34 cycles
+pub record StepReported (c : Chip) (ram : List ℕ) (a : Accesses) (r : PlusStepped) : Type 0 where
   pub answer : r .answer ≡ stepAnswer ram
   pub chip : r .chip ≡ served (stepAnswer ram) (stepped ram c) c
-  pub cycles : r .cycles ≡ reportOf c ram .cycles
-  pub kinds : r .kinds ≡ kindsOf (reportOf c ram .entries)
-  pub lows : r .lows ≡ lowsOf (reportOf c ram .entries)
-  pub bound : r .cycles ≤ 28
+  pub cycles : r .cycles ≡ reportOf c ram a .cycles
+  pub kinds : r .kinds ≡ kindsOf (reportOf c ram a .entries)
+  pub lows : r .lows ≡ lowsOf (reportOf c ram a .entries)
+  pub bound : r .cycles ≤ 34
 
 -- the part of the answer that forecast's own promise is about
 abbrev pub toldBy : PlusLength → Length
-toldBy r = record { answer = r .answer; lines = r .lines; cycles = r .cycles }
+toldBy r = record { answer = r .answer; lines = r .lines; cycles = r .cycles; most = r .most }
 
 -- the forecast: its own promise, demand 3 with it; and the list as a part of RAM, from the even start, as long as the list is,
 -- 0 and 0 where it is refused

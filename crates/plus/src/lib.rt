@@ -5,6 +5,7 @@ use chip::Chip;
 use listing::Printed;
 use listing::ReadBack;
 use page::ByteRead;
+use sound::Accesses;
 use sound::Did;
 use sound::Entry;
 use words::WordKind;
@@ -21,7 +22,7 @@ ghost use Rattle.export.specs.Export.{Exports};
 ghost use Rattle.draw.specs.Drawing.{Draws};
 ghost use Rattle.listing.specs.Print.{Printing};
 ghost use Rattle.listing.specs.Read.{Reading};
-ghost use Rattle.plus.specs.Report.{kindNumber, lowOf, kindsOf, lowsOf};
+ghost use Rattle.plus.specs.Report.{accessesBy, kindNumber, lowOf, kindsOf, lowsOf};
 ghost use Rattle.plus.specs.Promises.{StepReported, LengthTold};
 
 // A line step's answer, without enums: of each channel the number of what it did, and the low 12 bits of its word.
@@ -40,6 +41,7 @@ pub struct PlusLength {
     pub answer: u8,
     pub lines: u64,
     pub cycles: u64,
+    pub most: u64,
     pub offset: u32,
     pub length: u32,
 }
@@ -170,12 +172,23 @@ fn lows_of(entries: [Entry; 3]) -> [u16; 3]
     [low_of(zero), low_of(one), low_of(two)]
 }
 
-// One line: sound, raster compare, split compare, counters.
-#[no_mangle]
-pub extern "C" fn plus_step(chip: Chip, ram: &[u8]) -> PlusStepped
-    ensures { λ r. ⌜ StepReported chip (now (ram .entry)) r ⌝ }
+// What the processor does at the 8255 for each channel, from numbers.
+fn accesses(first: u8, second: u8, third: u8) -> Accesses
+    ensures { λ r. ⌜ r ≡ accessesBy first second third ⌝ }
 {
-    let stepped = chip::line::step(chip, ram);
+    Accesses {
+        first: sound::access_by(first),
+        second: sound::access_by(second),
+        third: sound::access_by(third),
+    }
+}
+
+// One line: sound, raster compare, split compare, counters. The numbers say what the processor does at the 8255 for each channel.
+#[no_mangle]
+pub extern "C" fn plus_step(chip: Chip, ram: &[u8], first: u8, second: u8, third: u8) -> PlusStepped
+    ensures { λ r. ⌜ StepReported chip (now (ram .entry)) (accessesBy first second third) r ⌝ }
+{
+    let stepped = chip::line::step(chip, ram, accesses(first, second, third));
     let next = stepped.chip;
     let report = stepped.report;
     let entries = report.entries;
@@ -188,7 +201,7 @@ pub extern "C" fn plus_step(chip: Chip, ram: &[u8]) -> PlusStepped
     }
 }
 
-// The lines and cycles of the list at a start address, and where the list stands.
+// The lines of the list at a start address, the least and the most cycles, and where the list stands.
 #[no_mangle]
 pub extern "C" fn plus_forecast(ram: &[u8], start: u16, prescale: u8) -> PlusLength
     ensures { λ r. ⌜ LengthTold (now (ram .entry)) start prescale r ⌝ }
@@ -199,6 +212,7 @@ pub extern "C" fn plus_forecast(ram: &[u8], start: u16, prescale: u8) -> PlusLen
             answer: told.answer,
             lines: told.lines,
             cycles: told.cycles,
+            most: told.most,
             offset: 0,
             length: 0,
         };
@@ -208,6 +222,7 @@ pub extern "C" fn plus_forecast(ram: &[u8], start: u16, prescale: u8) -> PlusLen
         answer: told.answer,
         lines: told.lines,
         cycles: told.cycles,
+        most: told.most,
         offset: start as u32 / 2 * 2,
         length: list.len() as u32,
     }

@@ -87,7 +87,7 @@ module _ (c : Chip) (h : List ℕ) (t : Tracks h (c .lock)) where
 pub tracks : {h : List ℕ} {c : Chip} → Reached h c → Tracks h (c .lock)
 tracks (fresh l) = l .tracks
 tracks (called {h} {c} {d} p k typed) = chip-tracks c h (tracks p) (asked k) d (fixed k .chip-is)
-tracks (stepped {h} {c} κs ram r p l e) =
+tracks (stepped {h} {c} κs ram a r p l e) =
     rw (← e, l .chip) (left-lock c h (tracks p) (stepAnswer (now ram)) (steppedChip (now ram) c) (step-lock (now ram) c))
 
 -- so it is unlocked exactly as the patterns say of them

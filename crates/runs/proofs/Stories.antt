@@ -61,7 +61,7 @@ way (wrote κs store places store' places' a b r s l h i) =
 way (undid κs store places store' r s l) =
     record { bytes = _; run = called (way s .run) (call.undo κs store places store' r l refl refl) tt }
 way (other s k typed plain) = record { bytes = _; run = called (way s .run) k typed }
-way (line κs ram r s l) = record { bytes = _; run = stepped κs ram r (way s .run) l refl }
+way (line κs ram a r s l) = record { bytes = _; run = stepped κs ram a r (way s .run) l refl }
 
 pub story-widths : {c : Chip} {store places : List ℕ} {ms : List Moment} → Story c store places ms → Widths c
 story-widths s = within (way s .run)
@@ -99,7 +99,7 @@ story-bytes (undid {c} κs store places store' r s l) =
     (put-bytes (now store) (entryRegister (newest c (now places))) (entryContents (newest c (now places))) (omega arith) (story-bytes s))
     (story-bytes s))
 story-bytes (other s k typed plain) = story-bytes s
-story-bytes (line κs ram r s l) = story-bytes s
+story-bytes (line κs ram a r s l) = story-bytes s
 
 -- ---- the record tells the moments
 
@@ -171,7 +171,7 @@ tells (wrote {c} {ms} κs store places store' places' a b r s l h i) =
     wrote-tells c (now store) (now places) a b ms l (tells s)
 tells (undid {c} {ms} κs store places store' r s l) = undid-tells c (now store) (now places) ms l (tells s)
 tells (other {c} {d} s k typed plain) = rw (other-editing c d (asked k) plain (fixed k .chip-is)) (tells s)
-tells (line {c} {places = places} κs ram r s l) =
+tells (line {c} {places = places} κs ram a r s l) =
     let same : r .chip .editing ≡ c .editing =
     ap (λ (d : Chip). d .editing) (l .chip)
     ∙ either-editing (stepAnswer (now ram)) (steppedChip (now ram) c) c (line-editing (now ram) c) in

@@ -95,7 +95,7 @@ each-known (wrote {c} {ms} κs store places store' places' a b r s l h i) =
     (each-known s)
 each-known (undid {c} {ms} κs store places store' r s l) = undid-known (r .answer) ms (each-known s)
 each-known (other s k typed plain) = each-known s
-each-known (line κs ram r s l) = each-known s
+each-known (line κs ram a r s l) = each-known s
 
 -- ---- what is no register stays
 

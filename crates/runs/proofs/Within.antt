@@ -17,7 +17,7 @@ use Rattle.sound.specs.declared.Channel.{Channel}
 use Rattle.sound.specs.declared.Sound.{Sound}
 use Rattle.sound.specs.declared.Did.the-variants.{SatOut}
 use Rattle.sound.specs.Channels.{wordAt, withPause, withAddress, withLoop, withFlags, counted, active, fetched, paused, looped, interrupted, stopped, controlled, executed, turnOf, played}
-use Rattle.sound.specs.Line.{offChannel, channelOf, channelAfter, channelsAfter, soundLine}
+use Rattle.sound.specs.Line.{offChannel, channelOf, channelAfter, channelsAfter, soundAfter}
 use Rattle.chip.specs.declared.Chip.{Chip}
 use Rattle.chip.specs.Ports.{selected, dataAnswer, dataWritten, gateAnswer, gateWritten}
 use Rattle.chip.specs.Interrupts.{ofRaster, channelFor, sourceOn, cleared, withCleared, interruptsServed, soundServed, acknowledgeAnswer, acknowledged}
@@ -186,14 +186,14 @@ module _ (c : Chip) (w : Widths c) where
   chip-widths x d h is = rw is (ask-widths x h)
 
   step-widths : (ram : List ℕ) → Widths (steppedChip ram c)
-  unfolding steppedChip countedChip soundLine
+  unfolding steppedChip countedChip soundAfter
   step-widths ram =
-      beside (withSound c (soundLine ram (c .sound) .sound)) (steppedChip ram c) refl refl refl refl refl
-      (with-sound c w (soundLine ram (c .sound) .sound) refl (λ n. line-widths ram (c .sound .channels) n (w .channel)))
+      beside (withSound c (soundAfter ram (c .sound))) (steppedChip ram c) refl refl refl refl refl
+      (with-sound c w (soundAfter ram (c .sound)) refl (λ n. line-widths ram (c .sound .channels) n (w .channel)))
 
 -- any run from reset
 pub within : {h : List ℕ} {c : Chip} → Reached h c → Widths c
 within (fresh l) = rw (l .chip) reset-widths
 within (called {c = c} {d = d} p k typed) = chip-widths c (within p) (asked k) d typed (fixed k .chip-is)
-within (stepped {c = c} κs ram r p l e) =
+within (stepped {c = c} κs ram a r p l e) =
     rw (← e, l .chip) (by-number (stepAnswer (now ram)) (steppedChip (now ram) c) c (step-widths c (within p) (now ram)) (within p))

@@ -4,6 +4,7 @@ use mathlib.Core.List.{List, [], _∷_}
 use Prim.Native.Nat.{ℕ}
 use contract.Lifetimes.{Lfts}
 use denote.Ref.{RefT}
+use Rattle.sound.specs.declared.Accesses.{Accesses}
 use Rattle.chip.specs.declared.Chip.{Chip}
 use Rattle.chip.specs.declared.Stepped.{Stepped}
 use Rattle.chip.proofs.start.reset.Reads as reset
@@ -27,5 +28,5 @@ pub data Reached : List ℕ → Chip → Type 0 where
   called :
       {h : List ℕ} {c d : Chip} {answer : ℕ} → Reached h c → (k : Call c answer d) → Typed (asked k) → Reached (fedBy (asked k) h) d
   stepped :
-      {h : List ℕ} {c d : Chip} (κs : Lfts 1) (ram : RefT (List ℕ)) (r : Stepped) →
-      Reached h c → step.Learnt κs (c, (ram, tt)) r (c, (ram, tt)) → r .chip ≡ d → Reached h d
+      {h : List ℕ} {c d : Chip} (κs : Lfts 1) (ram : RefT (List ℕ)) (a : Accesses) (r : Stepped) →
+      Reached h c → step.Learnt κs (c, (ram, (a, tt))) r (c, (ram, (a, tt))) → r .chip ≡ d → Reached h d

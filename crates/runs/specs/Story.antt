@@ -10,6 +10,7 @@ use Rattle.words.specs.Choice.{if}
 use Rattle.ring.specs.Ring.{tail}
 use Rattle.sound.specs.declared.Channel.{Channel}
 use Rattle.sound.specs.Line.{channelOf}
+use Rattle.sound.specs.declared.Accesses.{Accesses}
 use Rattle.chip.specs.declared.Chip.{Chip}
 use Rattle.chip.specs.declared.Answered.{Answered}
 use Rattle.chip.specs.declared.Stepped.{Stepped}
@@ -64,8 +65,8 @@ pub data Story : Chip → List ℕ → List ℕ → List Moment → Type 0 where
       {c d : Chip} {store places : List ℕ} {ms : List Moment} {answer : ℕ} →
       Story c store places ms → (k : Call c answer d) → Typed (asked k) → Plain (asked k) → Story d store places ms
   line :
-      {c : Chip} {store places : List ℕ} {ms : List Moment} (κs : Lfts 1) (ram : RefT (List ℕ)) (r : Stepped) →
-      Story c store places ms → step.Learnt κs (c, (ram, tt)) r (c, (ram, tt)) → Story (r .chip) store places ms
+      {c : Chip} {store places : List ℕ} {ms : List Moment} (κs : Lfts 1) (ram : RefT (List ℕ)) (a : Accesses) (r : Stepped) →
+      Story c store places ms → step.Learnt κs (c, (ram, (a, tt))) r (c, (ram, (a, tt))) → Story (r .chip) store places ms
 
 -- what a channel keeps over an undo, whatever it puts back: all but its address and prescale
 pub record ChannelStays (d e : Channel) : Type 0 where

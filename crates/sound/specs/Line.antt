@@ -2,12 +2,18 @@
 use mathlib.Core.Bool.{false}
 use mathlib.Core.List.{List, [], _∷_}
 use Prim.Native.Nat.{ℕ, _+_, _/_, _%_}
+use lib.Dec.{eqb}
 use lib.ListN.{set, getD}
+use Rattle.words.specs.Choice.{if}
 use Rattle.words.specs.declared.WordKind.the-variants.{Load, Pause, Repeat, Control, Nothing}
+use Rattle.sound.specs.declared.Access.{Access}
+use Rattle.sound.specs.declared.Access.the-variants.{Off, On, PsgWrite}
+use Rattle.sound.specs.declared.Accesses.{Accesses}
 use Rattle.sound.specs.declared.Channel.{Channel}
 use Rattle.sound.specs.declared.Did.{Did}
 use Rattle.sound.specs.declared.Did.the-variants.{SatOut, Executed}
 use Rattle.sound.specs.declared.Entry.{Entry}
+use Rattle.sound.specs.declared.Report.{Report}
 use Rattle.sound.specs.declared.Sound.{Sound}
 use Rattle.sound.specs.declared.SoundLine.{SoundLine}
 use Rattle.sound.specs.Channels.{turnOf}
@@ -28,14 +34,38 @@ loaded psg (Executed Repeat n) = psg
 loaded psg (Executed Control n) = psg
 loaded psg (Executed Nothing n) = psg
 
--- a channel's own cycles: 1 for its fetch, then 8 for a LOAD and 1 for any other word; 0 if it sat out
-abbrev pub ownCycles : Did → ℕ
-ownCycles SatOut = 0
-ownCycles (Executed Load n) = 9
-ownCycles (Executed Pause n) = 2
-ownCycles (Executed Repeat n) = 2
-ownCycles (Executed Control n) = 2
-ownCycles (Executed Nothing n) = 2
+-- 02, L6: the cycles that the processor takes from a LOAD: none off the 8255, 1 on it, 2 if its access is itself a PSG register write
+abbrev pub disturbance : Access → ℕ
+disturbance Off = 0
+disturbance On = 1
+disturbance PsgWrite = 2
+
+-- a channel's own cycles: 1 for its fetch, then 8 for a LOAD, with what the processor takes from it, and 1 for any other word; 0 if it
+-- sat out
+abbrev pub ownCycles : Access → Did → ℕ
+ownCycles a SatOut = 0
+ownCycles a (Executed Load n) = 9 + disturbance a
+ownCycles a (Executed Pause n) = 2
+ownCycles a (Executed Repeat n) = 2
+ownCycles a (Executed Control n) = 2
+ownCycles a (Executed Nothing n) = 2
+
+-- of these, what the processor takes
+abbrev pub taken : Access → Did → ℕ
+taken a SatOut = 0
+taken a (Executed Load n) = disturbance a
+taken a (Executed Pause n) = 0
+taken a (Executed Repeat n) = 0
+taken a (Executed Control n) = 0
+taken a (Executed Nothing n) = 0
+
+-- an access by its number: 0 off the 8255, 1 on it, any other a PSG register write
+abbrev pub accessBy : ℕ → Access
+accessBy n = if (eqb n 0) Off (if (eqb n 1) On PsgWrite)
+
+-- what the processor does at the 8255 for channel n
+abbrev pub accessOf : Accesses → ℕ → Access
+accessOf a n = if (eqb n 0) (a .first) (if (eqb n 1) (a .second) (a .third))
 
 -- the entry of the report for what a channel did
 abbrev pub entryOf : Did → Entry
@@ -79,21 +109,20 @@ abbrev pub psgAfter : List ℕ → List Entry → List ℕ
 psgAfter psg es = loaded (loaded (loaded psg (didOf es 0)) (didOf es 1)) (didOf es 2)
 
 -- a line's cycles: 1 dead cycle, and each channel's own
-abbrev pub cyclesOf : List Entry → ℕ
-cyclesOf es = 1 + ownCycles (didOf es 0) + ownCycles (didOf es 1) + ownCycles (didOf es 2)
+abbrev pub cyclesOf : Accesses → List Entry → ℕ
+cyclesOf a es =
+    1 + ownCycles (accessOf a 0) (didOf es 0) + ownCycles (accessOf a 1) (didOf es 1) + ownCycles (accessOf a 2) (didOf es 2)
 
--- one line's sound: the state after it, and its report
-unfoldable pub soundLine : List ℕ → Sound → SoundLine
-soundLine ram s =
-    record {
-      sound =
-          record {
-            channels = channelsAfter ram (s .channels);
-            psg = psgAfter (s .psg) (entriesOn ram (s .channels));
-          };
-      report =
-          record {
-            cycles = cyclesOf (entriesOn ram (s .channels));
-            entries = entriesOn ram (s .channels);
-          };
-    }
+-- the state after one line's sound, whatever the processor does
+unfoldable pub soundAfter : List ℕ → Sound → Sound
+soundAfter ram s =
+    record { channels = channelsAfter ram (s .channels); psg = psgAfter (s .psg) (entriesOn ram (s .channels)) }
+
+-- its report
+unfoldable pub soundReport : List ℕ → Accesses → Sound → Report
+soundReport ram a s =
+    record { cycles = cyclesOf a (entriesOn ram (s .channels)); entries = entriesOn ram (s .channels) }
+
+-- both
+abbrev pub soundLine : List ℕ → Accesses → Sound → SoundLine
+soundLine ram a s = record { sound = soundAfter ram s; report = soundReport ram a s }

@@ -4,7 +4,7 @@ ghost use mathlib.Core.Bool.{true};
 ghost use mathlib.Core.Path.{_≡_};
 ghost use Prim.Native.Nat.{_≤_};
 ghost use Rattle.sound.specs.Channels.{wordAt, counted, fetched, looped, paused, repeated, controlled, executed, turnOf};
-ghost use Rattle.sound.specs.Line.{ownCycles, soundLine};
+ghost use Rattle.sound.specs.Line.{accessBy, accessOf, disturbance, ownCycles, soundLine};
 ghost use Rattle.sound.specs.Tally.{tallied};
 
 // One channel. `count` is the lines counted towards the next fall of `pause`, `counter` the passes
@@ -19,6 +19,56 @@ pub struct Channel {
     pub count: u8,
     pub counter: u16,
     pub mark: u16,
+}
+
+// What the processor does at the 8255 while a channel has its turn: it is off it, it is on it, or its access is itself a write to a
+// PSG register.
+pub enum Access {
+    Off,
+    On,
+    PsgWrite,
+}
+
+// That of each channel in order, for a line.
+pub struct Accesses {
+    pub first: Access,
+    pub second: Access,
+    pub third: Access,
+}
+
+impl Accesses {
+    // That of a channel by its number.
+    fn of(self, n: usize) -> Access
+        ensures { λ r. ⌜ r ≡ accessOf self n ⌝ }
+    {
+        match n {
+            0 => self.first,
+            1 => self.second,
+            _ => self.third,
+        }
+    }
+}
+
+// An access by its number: 0 off the 8255, 1 on it, any other a PSG register write.
+pub fn access_by(number: u8) -> Access
+    ensures { λ r. ⌜ r ≡ accessBy number ⌝ }
+{
+    match number {
+        0 => Access::Off,
+        1 => Access::On,
+        _ => Access::PsgWrite,
+    }
+}
+
+// The cycles that it takes from a LOAD.
+pub fn disturbance(access: Access) -> u8
+    ensures { λ r. ⌜ r ≡ disturbance access ⌝ }
+{
+    match access {
+        Access::Off => 0,
+        Access::On => 1,
+        Access::PsgWrite => 2,
+    }
 }
 
 // What a channel did on a line: sat out, or executed a word of this kind with these low 12 bits.
@@ -192,16 +242,16 @@ struct Tally {
 }
 
 impl Entry {
-    // The channel's own cycles on the line: its fetch and its word's cost, or 0.
-    pub fn own_cycles(self) -> u8
-        ensures { λ r. ⌜ r ≡ ownCycles (self .did) ⌝ }
+    // The channel's own cycles on the line, whatever the processor did: its fetch and its word's cost, or 0.
+    pub fn own_cycles(self, access: Access) -> u8
+        ensures { λ r. ⌜ r ≡ ownCycles access (self .did) ⌝ }
     {
         let did = self.did;
         match did {
             Did::SatOut => 0,
             Did::Executed(kind, _) => {
                 if words::is_load(kind) {
-                    return 9;
+                    return 9 + disturbance(access);
                 }
                 2
             }
@@ -209,15 +259,15 @@ impl Entry {
     }
 
     // One more channel in the tally: a LOAD sets a register, and its cycles are added.
-    fn tallied(self, before: Tally) -> Tally
-        requires { ⌜ before .cycles ≤ 246 ⌝ }
-        ensures { λ r. ⌜ r ≡ tallied before (self .did) ⌝ }
+    fn tallied(self, access: Access, before: Tally) -> Tally
+        requires { ⌜ before .cycles ≤ 244 ⌝ }
+        ensures { λ r. ⌜ r ≡ tallied before access (self .did) ⌝ }
     {
         let did = self.did;
         match did {
             Did::SatOut => before,
             Did::Executed(kind, low) => {
-                let cycles = before.cycles + self.own_cycles();
+                let cycles = before.cycles + self.own_cycles(access);
                 let mut psg = before.psg;
                 if !words::is_load(kind) {
                     return Tally { psg, cycles };
@@ -230,8 +280,8 @@ impl Entry {
 }
 
 // One line of all three channels, worked through in order.
-pub fn sound_line(sound: Sound, ram: &[u8]) -> SoundLine
-    ensures { λ r. ⌜ r ≡ soundLine (now (ram .entry)) sound ⌝ }
+pub fn sound_line(sound: Sound, ram: &[u8], accesses: Accesses) -> SoundLine
+    ensures { λ r. ⌜ r ≡ soundLine (now (ram .entry)) accesses sound ⌝ }
 {
     let mut channels = sound.channels;
     let mut entries = [Entry { did: Did::SatOut }; 3];
@@ -248,7 +298,7 @@ pub fn sound_line(sound: Sound, ram: &[u8]) -> SoundLine
         let entry = Entry { did };
         channels[n] = next;
         entries[n] = entry;
-        tally = entry.tallied(tally);
+        tally = entry.tallied(accesses.of(n), tally);
         n += 1;
     }
     let cycles = tally.cycles;

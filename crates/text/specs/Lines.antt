@@ -20,10 +20,10 @@ stepLine a r =
     didText (didOf (r .entries) 2) ++
     lineEnd
 
--- a forecast: the answer, lines, cycles and the bytes of the list
-abbrev pub forecastLine : ℕ → ℕ → ℕ → ℕ → List ℕ
-forecastLine a lines cycles bytes =
-    numeral a ++ spacedNumeral lines ++ spacedNumeral cycles ++ spacedNumeral bytes ++ lineEnd
+-- a forecast: the answer, lines, least cycles, the bytes of the list, and most cycles
+abbrev pub forecastLine : ℕ → ℕ → ℕ → ℕ → ℕ → List ℕ
+forecastLine a lines cycles bytes most =
+    numeral a ++ spacedNumeral lines ++ spacedNumeral cycles ++ spacedNumeral bytes ++ spacedNumeral most ++ lineEnd
 
 -- bad: a record that names no call
 abbrev pub badLine : List ℕ

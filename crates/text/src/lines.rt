@@ -48,17 +48,18 @@ pub fn stepped(out: &mut [u8], at: usize, answer: u8, report: Report) -> usize
     crate::ended(out, e)
 }
 
-// A forecast: the answer, lines, cycles and how many bytes the list takes.
+// A forecast: the answer, lines, least cycles, how many bytes the list takes, and most cycles.
 pub fn forecast(out: &mut [u8], at: usize, told: Length, bytes: usize) -> usize
-    requires { ⌜ at + 84 ≤ length (now out) ⌝ }
-    ensures { λ r. ⌜ Puts (now (out .entry)) at (forecastLine (told .answer) (told .lines) (told .cycles) bytes) (now (out .exit)) r ⌝ }
-    ensures { λ r. ⌜ r ≤ at + 84 ⌝ }
+    requires { ⌜ at + 105 ≤ length (now out) ⌝ }
+    ensures { λ r. ⌜ Puts (now (out .entry)) at (forecastLine (told .answer) (told .lines) (told .cycles) bytes (told .most)) (now (out .exit)) r ⌝ }
+    ensures { λ r. ⌜ r ≤ at + 105 ⌝ }
 {
     let a = crate::number(out, at, told.answer as u64);
     let b = crate::spaced(out, a, told.lines);
     let c = crate::spaced(out, b, told.cycles);
     let d = crate::spaced(out, c, bytes as u64);
-    crate::ended(out, d)
+    let e = crate::spaced(out, d, told.most);
+    crate::ended(out, e)
 }
 
 // A record that names no call.

@@ -1,7 +1,7 @@
 //! A whole frame in colour.
 
 use crate::player::Player;
-use plus::{answer, LINE};
+use plus::{answer, Access, LINE};
 
 /// The most lines that a frame can have: 128 rows of 32, and 31 of adjust.
 const LONGEST: usize = 128 * 32 + 31;
@@ -32,7 +32,7 @@ pub fn next_frame(player: &mut Player) -> Result<Rows, u8> {
 /// ends none.
 fn step(player: &mut Player) -> bool {
     let before = player.chip.crtc;
-    player.chip.step(&player.ram);
+    player.chip.step(&player.ram, [Access::Off; 3]);
     let (old, new) = (before.counters, player.chip.crtc.counters);
     let last_row = old.vc == before.registers.r4 && old.rc == before.registers.r9;
     let first_line = (new.vc, new.rc, new.adjust) == (0, 0, false);

@@ -58,14 +58,16 @@ fn exported(f: &mut fmt::Formatter, out: &[u8]) -> fmt::Result {
     out.iter().try_for_each(|byte| write!(f, "{byte:02x}"))
 }
 
-/// The answer, lines, cycles, and how many bytes the list has.
+/// The answer, lines, the least cycles, how many bytes the list has, and the most
+/// cycles.
 fn forecast(f: &mut fmt::Formatter, told: &Length) -> fmt::Result {
     let Length {
         answer,
         lines,
         cycles,
+        most,
         length,
         ..
     } = told;
-    write!(f, "{answer} {lines} {cycles} {length}")
+    write!(f, "{answer} {lines} {cycles} {length} {most}")
 }

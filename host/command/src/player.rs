@@ -1,7 +1,7 @@
 //! The playing of a scene: each record's call, made on the proved core.
 
 use crate::scene::Record;
-use plus::{answer, Chip, Length, Report, EXPORT, LINE};
+use plus::{answer, Access, Chip, Length, Report, EXPORT, LINE};
 
 /// A chip, and what is lent to it.
 pub struct Player {
@@ -50,7 +50,7 @@ impl Player {
             b'U' => Outcome::Answer(self.chip.undo(&mut self.store)),
             b'E' => self.export(),
             b'A' => self.acknowledge(),
-            b'L' => self.step(),
+            b'L' => self.step(value),
             b'P' => self.draw(),
             b'F' => Outcome::Forecast(plus::forecast(&self.ram, address, value)),
             b'M' => self.poke(address, value),
@@ -75,8 +75,11 @@ impl Player {
         Outcome::Byte(answer, vector)
     }
 
-    fn step(&mut self) -> Outcome {
-        let (answer, report) = self.chip.step(&self.ram);
+    /// A line, with what the processor does at the 8255: two bits for each
+    /// channel, the lowest two for channel 0.
+    fn step(&mut self, value: u8) -> Outcome {
+        let accesses = [0, 2, 4].map(|place| Access::from(value >> place & 3));
+        let (answer, report) = self.chip.step(&self.ram, accesses);
         Outcome::Line(answer, report)
     }
 

@@ -14,7 +14,7 @@ mod sound;
 mod undo;
 
 pub use draw::byte_address;
-pub use forecast::{forecast, list};
+pub use forecast::{forecast, list, Length};
 pub use listing::{print, read};
 pub use page::grey;
 
@@ -146,6 +146,14 @@ pub enum Kind {
 pub enum Did {
     SatOut,
     Executed(Kind, u16),
+}
+
+/// What the processor does at the 8255 when a channel has its turn.
+#[derive(Clone, Copy, Debug, PartialEq, Eq)]
+pub enum Access {
+    Off,
+    On,
+    PsgWrite,
 }
 
 /// What a line step tells.

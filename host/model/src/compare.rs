@@ -12,7 +12,7 @@ pub use call::{Answer, Buffers, Call};
 pub use script::Script;
 
 use crate::machine::Machine;
-use plus::{Chip, Undo, PLACES};
+use plus::{kind, Chip, Undo, PLACES};
 use std::fmt;
 
 /// How often each call gave each answer number; `Call::NAMES` names the rows.
@@ -24,6 +24,9 @@ pub struct Tally {
     /// How often the record became full, and how often it dropped a write then.
     pub filled: u64,
     pub dropped: u64,
+    /// How many LOADs met the processor off the 8255, on it, and writing a PSG
+    /// register there.
+    pub loads: [u64; 3],
 }
 
 impl Tally {
@@ -31,6 +34,11 @@ impl Tally {
         if let Some(row) = call.row() {
             self.calls += 1;
             self.answers[row][answer.number() as usize] += 1;
+        }
+        if let (Call::Step { accesses, .. }, Answer::Line(_, report)) = (call, answer) {
+            for (access, reported) in accesses.into_iter().zip(report.kinds) {
+                self.loads[access as usize] += u64::from(reported == kind::LOAD);
+            }
         }
     }
 
@@ -161,6 +169,11 @@ impl fmt::Display for Tally {
         writeln!(
             f,
             "the record was filled {filled} times and dropped {dropped} writes"
+        )?;
+        let [off, on, psg_write] = self.loads;
+        writeln!(
+            f,
+            "LOADs met the processor off the 8255 {off} times, on it {on}, in a PSG write {psg_write}"
         )
     }
 }

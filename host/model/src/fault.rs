@@ -8,6 +8,7 @@ mod line;
 mod listing;
 mod page;
 mod ports;
+mod processor;
 mod sound;
 mod undo;
 
@@ -30,6 +31,10 @@ pub use page::{
     PauseRestartedByDisable, WholePixel,
 };
 pub use ports::{LockingUnmaps, LostZero, MappedAt10, UnlockedAtCd, WholeR4};
+pub use processor::{
+    AccessOfChannel1, AccessesIgnored, LeastIsMost, LoadLost, MostIsLeast, MostOnce,
+    MostThoughRefused, OnTakesTwo, OthersDisturbed, PauseDisturbed, SatOutDisturbed,
+};
 pub use sound::{
     ControlAsNothing, EightRegisters, HighestChannelFirst, ListWithoutStop, LoopInStopWord,
     OuterCountKept, PauseOf0Counts, RepeatKTimes,

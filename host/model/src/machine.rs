@@ -6,7 +6,7 @@ mod convert;
 
 use crate::chip::{self, Did, Kind, Model};
 use plus::listing::{self, Printed, ReadBack};
-use plus::{kind, Chip, Editing, Length, Report, State};
+use plus::{kind, Access, Chip, Editing, Length, Report, State};
 use std::marker::PhantomData;
 use std::mem;
 
@@ -136,8 +136,8 @@ calls! {
         /// An acknowledge: the answer and the vector.
         fn acknowledge() -> (u8, u8);
 
-        /// A line step.
-        fn step(ram: &[u8]) -> (u8, Report);
+        /// A line step, with what the processor does at the 8255.
+        fn step(ram: &[u8], accesses: [Access; 3]) -> (u8, Report);
 
         /// The current line drawn.
         fn draw(ram: &[u8], store: &[u8], line: &mut [u8]) -> u8;
@@ -233,8 +233,8 @@ impl Machine for Model {
         Model::acknowledge(self)
     }
 
-    fn step(&mut self, ram: &[u8]) -> (u8, Report) {
-        let (answer, report) = Model::step(self, ram);
+    fn step(&mut self, ram: &[u8], accesses: [Access; 3]) -> (u8, Report) {
+        let (answer, report) = Model::step(self, ram, accesses.map(Into::into));
         (answer, in_numbers(&report))
     }
 
@@ -243,7 +243,7 @@ impl Machine for Model {
     }
 
     fn forecast(ram: &[u8], start: u16, prescale: u8) -> Length {
-        let (answer, lines, cycles) = chip::forecast(ram, start, prescale);
+        let told = chip::forecast(ram, start, prescale);
         let list = chip::list(ram, start);
         let offset = if list.is_empty() {
             0
@@ -251,9 +251,10 @@ impl Machine for Model {
             list.as_ptr() as usize - ram.as_ptr() as usize
         };
         Length {
-            answer,
-            lines,
-            cycles,
+            answer: told.answer,
+            lines: told.lines,
+            cycles: told.cycles,
+            most: told.most,
             offset: offset as u32,
             length: list.len() as u32,
         }

@@ -1,6 +1,6 @@
 //! Random states, sound lists and bytes, the same on every run.
 
-use plus::{Channel, Chip, Counters, Sprite, State};
+use plus::{Access, Channel, Chip, Counters, Sprite, State};
 
 /// A plain random source (xorshift), the same on every run.
 pub struct Random(pub u64);
@@ -126,6 +126,11 @@ fn any_channel(r: &mut Random) -> Channel {
         counter: r.below(4096) as u16,
         mark: r.word() & 0xFFFE,
     }
+}
+
+/// Whatever the processor may do at the 8255 on a line.
+pub fn any_accesses(random: &mut Random) -> [Access; 3] {
+    [(); 3].map(|()| random.pick(&[Access::Off, Access::On, Access::PsgWrite]))
 }
 
 /// A list that ends with a STOP, with short pauses and loops.

@@ -2,7 +2,7 @@
 //! ends the test.
 
 use crate::machine::Machine;
-use plus::{answer, State, EXPORT, LINE, RAM, STORE, UNLOCK};
+use plus::{answer, Access, Report, State, EXPORT, LINE, RAM, STORE, UNLOCK};
 
 /// What follows a byte that isn't zero and a zero, in the unlock sequence.
 pub const KEY: &[u8] = UNLOCK.split_at(2).1.split_at(14).0;
@@ -139,10 +139,15 @@ pub trait UnderTest: Machine + Sized {
         }
     }
 
-    /// Line steps.
+    /// A line step with the processor off the 8255.
+    fn plain_step(&mut self, ram: &[u8]) -> (u8, Report) {
+        self.step(ram, [Access::Off; 3])
+    }
+
+    /// Several of them.
     fn lines(&mut self, count: usize, ram: &[u8]) {
         for _ in 0..count {
-            assert_eq!(self.step(ram).0, answer::DONE);
+            assert_eq!(self.plain_step(ram).0, answer::DONE);
         }
     }
 

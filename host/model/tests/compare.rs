@@ -40,6 +40,10 @@ fn core_is_the_model() {
     // The record was full many times, and went on.
     assert!(tally.filled >= 1_000, "{}", tally.filled);
     assert!(tally.dropped >= 50_000, "{}", tally.dropped);
+    // LOADs met the processor in each of the three ways.
+    for (met, times) in tally.loads.into_iter().enumerate() {
+        assert!(times >= 1_000, "{met}: {times}");
+    }
 }
 
 /// The fault is seen, and the calls that the report calls enough end in the one
@@ -88,8 +92,10 @@ caught! {
     acknowledge: LowestFirst, AlwaysCleared;
     step: SteppedThoughRefused, RasterInAdjust, SplitLateInAdjust, SplitOnFirstLine,
         AdvanceByRcAlone, RepeatKTimes, OuterCountKept, EightRegisters, HighestChannelFirst,
-        PauseOf0Counts, ControlAsNothing;
-    forecast: LoopInStopWord, ListWithoutStop;
+        PauseOf0Counts, ControlAsNothing, PauseDisturbed, OthersDisturbed, SatOutDisturbed,
+        OnTakesTwo, AccessOfChannel1, AccessesIgnored, LoadLost;
+    forecast: LoopInStopWord, ListWithoutStop, MostOnce, MostIsLeast, LeastIsMost,
+        MostThoughRefused;
     draw: HighestSpriteFirst, ScrollOf3Bits, ModeThreeDrawn;
 }
 

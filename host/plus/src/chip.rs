@@ -2,7 +2,7 @@
 
 use crate::ffi;
 use crate::state::{Aligned, State, Undo};
-use crate::PLACES;
+use crate::{Access, PLACES};
 use std::ops::{Deref, DerefMut};
 
 /// A chip, and its record of page writes. Its fields are those of [`State`].
@@ -15,7 +15,7 @@ pub struct Chip {
 /// What a line step tells.
 #[derive(Clone, Copy, Debug, PartialEq, Eq)]
 pub struct Report {
-    /// Cycles of the whole line, its dead cycle with them.
+    /// Cycles of the whole line, its dead cycle with them: at most 34.
     pub cycles: u8,
     /// What each channel did, by the numbers in [`kind`](crate::kind).
     pub kinds: [u8; 3],
@@ -113,10 +113,13 @@ impl Chip {
         (acknowledged.answer, acknowledged.vector)
     }
 
-    /// One line: sound, raster compare, split compare, counters. The answer, 0
-    /// or 1, and what the line did.
-    pub fn step(&mut self, ram: &[u8]) -> (u8, Report) {
-        let stepped = unsafe { ffi::plus_step(self.state, ram.as_ptr(), ram.len()) };
+    /// One line: sound, raster compare, split compare, counters. `accesses` says
+    /// what the processor does at the 8255, channel by channel, and changes the
+    /// line's cycles alone. The answer, 0 or 1, and what the line did.
+    pub fn step(&mut self, ram: &[u8], accesses: [Access; 3]) -> (u8, Report) {
+        let [first, second, third] = accesses;
+        let (ram, length) = (ram.as_ptr(), ram.len());
+        let stepped = unsafe { ffi::plus_step(self.state, ram, length, first, second, third) };
         **self = stepped.chip;
         let report = Report {
             cycles: stepped.cycles,

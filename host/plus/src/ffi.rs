@@ -2,7 +2,7 @@
 
 use crate::listing::{Printed, ReadBack};
 use crate::state::Aligned;
-use crate::{Length, State, PLACES};
+use crate::{Access, Length, State, PLACES};
 
 #[repr(C)]
 pub(crate) struct Answered {
@@ -63,7 +63,14 @@ extern "C" {
     ) -> Answered;
     pub(crate) fn plus_export(chip: Aligned, out: *mut u8, out_length: usize) -> u8;
     pub(crate) fn plus_acknowledge(chip: Aligned) -> Acknowledged;
-    pub(crate) fn plus_step(chip: Aligned, ram: *const u8, ram_length: usize) -> Stepped;
+    pub(crate) fn plus_step(
+        chip: Aligned,
+        ram: *const u8,
+        ram_length: usize,
+        first: Access,
+        second: Access,
+        third: Access,
+    ) -> Stepped;
     pub(crate) fn plus_forecast(
         ram: *const u8,
         ram_length: usize,

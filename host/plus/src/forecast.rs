@@ -10,8 +10,11 @@ pub struct Length {
     pub answer: u8,
     /// Lines from the first word through the STOP.
     pub lines: u64,
-    /// The channel's own cycles over these lines.
+    /// The channel's own cycles over these lines if the processor disturbs no
+    /// LOAD. It never takes fewer, and as few only then.
     pub cycles: u64,
+    /// The same if a PSG register write meets every LOAD. It never takes more.
+    pub most: u64,
     /// Where in RAM the list begins.
     pub offset: u32,
     /// How many bytes it has, its STOP with them.

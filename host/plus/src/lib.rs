@@ -15,13 +15,14 @@
 //! A sound list forecast, then played on channel 0 up to its STOP:
 //!
 //! ```
-//! use plus::{answer, forecast, Chip, RAM, STORE, UNLOCK};
+//! use plus::{answer, forecast, Access, Chip, RAM, STORE, UNLOCK};
 //!
 //! // LOAD 7 38h, PAUSE 2, STOP
 //! let (mut ram, mut store) = (vec![0; RAM], vec![0; STORE]);
 //! ram[0x8000..0x8006].copy_from_slice(&[0x38, 0x07, 0x02, 0x10, 0x20, 0x40]);
 //! let told = forecast(&ram, 0x8000, 0);
 //! assert_eq!((told.answer, told.lines, told.cycles), (answer::DONE, 4, 13));
+//! assert_eq!(told.most, 15); // if the processor is in the way of the LOAD
 //!
 //! let mut chip = Chip::new();
 //! UNLOCK.map(|byte| chip.write_bc(byte));
@@ -31,9 +32,23 @@
 //! }
 //! assert_eq!(chip.page_read(&store, 0x6C0F, 0), (answer::DONE, 1)); // DCSR: enabled
 //! for _ in 0..told.lines {
-//!     chip.step(&ram);
+//!     chip.step(&ram, [Access::Off; 3]);
 //! }
 //! assert_eq!(chip.page_read(&store, 0x6C0F, 0), (answer::DONE, 0)); // and off again
+//! ```
+//!
+//! A LOAD takes longer while the processor is on the 8255. RAM of zeros is all
+//! LOADs, and here the three channels execute one each on every line:
+//!
+//! ```
+//! # use plus::{Access, Chip, RAM};
+//! let mut chip = Chip::new();
+//! chip.sound.channels.each_mut().map(|channel| channel.enabled = true);
+//! let lines = [Access::Off, Access::On, Access::PsgWrite].map(|access| {
+//!     let (_, report) = chip.step(&[0; RAM], [access; 3]);
+//!     report.cycles
+//! });
+//! assert_eq!(lines, [28, 31, 34]);
 //! ```
 //!
 //! A prescale changed, undone and exported. The export ends with the registers of
@@ -56,6 +71,7 @@
 
 #![warn(missing_docs)]
 
+mod access;
 pub mod answer;
 mod chip;
 mod ffi;
@@ -65,6 +81,7 @@ pub mod listing;
 mod palette;
 mod state;
 
+pub use access::Access;
 pub use chip::{Chip, Report};
 pub use forecast::{forecast, Length};
 pub use palette::grey;

@@ -23,7 +23,7 @@ returns c =
     record {
       chip = refl;
       puts =
-          simp (c .before .before .before .before .before .forecast .ensures .answer, c .before .before .before .before .before .forecast .ensures .lines, c .before .before .before .before .before .forecast .ensures .cycles, c .before .before .before .before .list .ensures) at
+          simp (c .before .before .before .before .before .forecast .ensures .answer, c .before .before .before .before .before .forecast .ensures .lines, c .before .before .before .before .before .forecast .ensures .cycles, c .before .before .before .before .before .forecast .ensures .most, c .before .before .before .before .list .ensures) at
           (c .before .before .forecast2 .ensures .0);
       bound = search needs;
     }

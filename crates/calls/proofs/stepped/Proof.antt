@@ -4,6 +4,9 @@ use Rattle.calls.specs.Calls.{lineStepLine}
 use Rattle.calls.proofs.stepped.Statement.{statement}
 use Rattle.calls.proofs.stepped.Tie as tie
 
+accesses-in-requires : tie.Need-accesses-in-requires
+accesses-in-requires c κs = search needs
+
 step-requires : tie.Need-step-requires
 step-requires c κs = search needs
 
@@ -16,7 +19,13 @@ same-length c = search needs
 returns : tie.Need-returns
 unfolding lineStepLine
 returns c =
-    record { chip = c .before .before .before .before .before .before .step .ensures .chip; puts = simp (c .before .before .before .before .before .before .step .ensures .answer, c .before .before .before .before .before .before .step .ensures .report) at (c .before .before .stepped .ensures .0); bound = search needs }
+    let called = c .before .before .before .before .before .before in
+    let told = rw (called .before .accesses-in .ensures) at (called .step .ensures) in
+    record {
+      chip = told .chip;
+      puts = simp (told .answer, told .report) at (c .before .before .stepped .ensures .0);
+      bound = search needs;
+    }
 
 pub stepped-spec : {M : Type 1} → statement M
-stepped-spec = tie.close (tie.spec step-requires stepped-requires same-length returns)
+stepped-spec = tie.close (tie.spec accesses-in-requires step-requires stepped-requires same-length returns)

@@ -3,7 +3,7 @@ use mathlib.Core.Path.{refl, sym, _∙_}
 use Prim.Native.Nat.{_+_, _-_, _≤_}
 use native.Mathlib.Omega.{arith}
 use borrow.Author.Needs.{needs}
-use Rattle.forecast.specs.Rule.{even, linesForecast, cyclesForecast}
+use Rattle.forecast.specs.Rule.{even, linesForecast, cyclesMeeting}
 use Rattle.forecast.proofs.Walk.{walked-stop, walked-end}
 use Rattle.forecast.proofs.Answer.{answer-length, answer-none, forecast-refused, forecast-served}
 use Rattle.forecast.proofs.Pass.{Scanned, scanned-none, scanned-open, scanned-stop, scanned-more}
@@ -41,7 +41,7 @@ stops-requires : tie.Need-stops-requires Inv-loop μ-loop
 stops-requires c κs = search needs
 
 returns-2 : tie.Need-returns-2 Inv-loop μ-loop
-unfolding linesForecast cyclesForecast
+unfolding linesForecast cyclesMeeting
 returns-2 c =
     let inv = c .before .before .before .before .before .loop .inv in
     let test : c .before .before .before .before .before .loop .at + 2 ≤ 65536 = omega arith in
@@ -50,7 +50,7 @@ returns-2 c =
     let sums = scanned-stop _ _ _ _ _ inv test stop in
     let found = walked-stop _ _ _ (inv .walked) test stop in
     rw (c .before .before .passed .ensures, word)
-    (forecast-served _ _ _ _ (c .before .before .before .before .before .before .if1 .left) found refl (sums .0) (sums .1))
+    (forecast-served _ _ _ _ (c .before .before .before .before .before .before .if1 .left) found refl (sums .0) (sums .1) (sums .2))
 
 add-at : tie.Need-add-at Inv-loop μ-loop
 add-at c = search needs

@@ -3,6 +3,9 @@ use borrow.Author.Needs.{needs}
 use Rattle.plus.proofs.plus_step.Statement.{statement}
 use Rattle.plus.proofs.plus_step.Tie as tie
 
+accesses-requires : tie.Need-accesses-requires
+accesses-requires c κs = search needs
+
 step-requires : tie.Need-step-requires
 step-requires c κs = search needs
 
@@ -14,7 +17,8 @@ lows-of-requires c κs = search needs
 
 returns : tie.Need-returns
 returns c =
-    let stepped = c .before .before .before .before .before .step .ensures in
+    let called = c .before .before .before .before .before in
+    let stepped = rw (called .before .accesses .ensures) at (called .step .ensures) in
     record {
       answer = stepped .answer;
       chip = stepped .chip;
@@ -25,4 +29,4 @@ returns c =
     }
 
 pub plus-step-spec : {M : Type 1} → statement M
-plus-step-spec = tie.close (tie.spec step-requires kinds-of-requires lows-of-requires returns)
+plus-step-spec = tie.close (tie.spec accesses-requires step-requires kinds-of-requires lows-of-requires returns)

@@ -9,11 +9,11 @@ use Rattle.sound.proofs.sound_line.Statement.{statement}
 use Rattle.sound.proofs.sound_line.Tie as tie
 
 abbrev Inv-loop : tie.InvT-loop
-Inv-loop ram channels₀ entries₀ tally₀ n₀ channels entries tally n =
-    (n ≤ 3) × (lineOf channels entries tally ≡ worked ram channels₀ (tally₀ .psg) n)
+Inv-loop ram accesses channels₀ entries₀ tally₀ n₀ channels entries tally n =
+    (n ≤ 3) × (lineOf channels entries tally ≡ worked ram accesses channels₀ (tally₀ .psg) n)
 
 abbrev μ-loop : tie.MeasureT-loop
-μ-loop ram channels₀ entries₀ tally₀ n₀ channels entries tally n = 3 - n
+μ-loop ram accesses channels₀ entries₀ tally₀ n₀ channels entries tally n = 3 - n
 
 loop-holds : tie.Need-loop-holds Inv-loop μ-loop
 loop-holds c = (omega arith, refl)
@@ -39,9 +39,12 @@ mul-entries c = search needs
 array-set-from-entries : tie.Need-array-set-from-entries Inv-loop μ-loop
 array-set-from-entries c = c .before .before .before .loop-test .taken
 
+of-requires : tie.Need-of-requires Inv-loop μ-loop
+of-requires c κs = tt
+
 tallied-requires : tie.Need-tallied-requires Inv-loop μ-loop
 tallied-requires c κs =
-    room _ _ _ _ _ _ _ (c .before .before .before .before .loop .inv .1) (c .before .before .before .loop-test .taken)
+    room _ _ _ _ _ _ _ _ (c .before .before .before .before .before .loop .inv .1) (c .before .before .before .before .loop-test .taken)
 
 add-n : tie.Need-add-n Inv-loop μ-loop
 add-n c = search needs
@@ -52,18 +55,10 @@ loop-less c = omega arith
 loop-again : tie.Need-loop-again Inv-loop μ-loop
 loop-again c = (
   omega arith,
-  one-more
-      _
-      _
-      _
-      _
-      _
-      _
-      _
-      _
-      _
-      (c .before .before .before .before .before .loop .inv .1)
-      (c .before .before .line .ensures)
+  one-more _ _ _ _ _ _ _ _ _ _ _
+      (c .before .before .before .before .before .before .loop .inv .1)
+      (c .before .before .before .line .ensures)
+      (c .before .of .ensures)
       (c .tallied .ensures),
 )
 
@@ -75,7 +70,7 @@ returns : tie.Need-returns Inv-loop μ-loop
 returns c =
     let last : c .before .before .loop .n ≡ 3 = omega arith in
     let a = c .before .before .before .before .before .before .args in
-    let whole = all-worked (a .ram .now) (a .sound .channels) (a .sound .psg) (three (c .before .before .before .before .before .before)) in
+    let whole = all-worked (a .ram .now) (a .accesses) (a .sound .channels) (a .sound .psg) (three (c .before .before .before .before .before .before)) in
     c .before .before .loop .inv .1 ∙ rw last whole
 
 pub sound-line-spec : {M : Type 1} → statement M
@@ -92,6 +87,7 @@ sound-line-spec =
     array-set-from-channels
     mul-entries
     array-set-from-entries
+    of-requires
     tallied-requires
     add-n
     loop-less

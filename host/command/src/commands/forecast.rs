@@ -23,8 +23,11 @@ FILE is an image of RAM, 65,536 bytes, with a sound list at 8000h. Prints
   lines N cycles N
 
 for that list at prescale 0: the lines from its first word through its STOP,
-and the channel's own cycles over them. Refused are an image of another
-length (1) and a list without a STOP up to the end of RAM (6).",
+and the channel's own cycles over them, if the processor is never on the 8255
+when a LOAD is executed. Each time that it is, the LOAD takes a cycle more, or
+two if the processor writes a PSG register there; the lines stay. Refused are
+an image of another length (1) and a list without a STOP up to the end of RAM
+(6).",
     run,
 };
 

@@ -25,10 +25,13 @@ that its call answered; a refusal there is part of the run.
   U      undoes the newest write to the page that is left
   E      exports the registers: and 477 bytes, two digits each
   A      acknowledges: and the vector
-  L      steps a line: the cycles, and for each channel - or kind and low bits
+  L      steps a line: the cycles, and for each channel - or kind and low bits;
+         value says what the processor does at the 8255, in bits 1-0 for
+         channel 0, 3-2 for 1, 5-4 for 2: 0 off it, 1 on it, 2 or 3 a write to
+         a PSG register
   P      draws the line: an entry a character, 0 to 9 and a to v
-  F      forecasts the list at the address, value the prescale: lines, cycles,
-         and the list's bytes
+  F      forecasts the list at the address, value the prescale: lines, least
+         cycles, the list's bytes, and most cycles
   M      value into RAM
   Z      resets
 

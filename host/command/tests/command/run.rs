@@ -48,7 +48,9 @@ fn each_letter() {
         .record('W', 0x6800, 0x64)
         .record('U', 0x6C09, 0x12)
         .record('R', 0x6800, 0x12)
-        .each('L', &[0, 0])
+        // The processor writes a PSG register while channel 2 has its turn, and on
+        // the next line for all three.
+        .each('L', &[0x20, 0xFF])
         // INT in the place of STOP.
         .record('M', 0x8004, 0x10)
         .each('L', &[0, 0])
@@ -63,11 +65,11 @@ fn each_letter() {
         .record('U', 0, 0)
         .record('R', 0x6000, 0x12);
     let lines = [
-        &["0 8 13 6", "5 0", "3", "2 0"][..],
+        &["0 8 13 6 15", "5 0", "3", "2 0"][..],
         &["0"; 17],
         // The last byte, EEh, has selected register 14.
         &["3", "0", "0", "0", "0", "0", "0 18"],
-        &["0 10 - - load 1848", "0 3 - - pause 2", "0"],
+        &["0 12 - - load 1848", "0 3 - - pause 2", "0"],
         &["0 1 - - -", "0 3 - - control 16"],
         // IVR 01h: the vector 0, and the interrupt stays.
         &["0 0", "0 20"],

@@ -134,7 +134,7 @@ fn set_up<M: UnderTest>(case: &Case) -> M {
 /// The calls of each case and the time they take, written once for both: they
 /// have calls of the same names, and are called here with nothing between.
 macro_rules! calls_of {
-    ($run:ident, $machine:ident, $forecast:path, $print:path, $read:path) => {
+    ($run:ident, $machine:ident, $forecast:path, $print:path, $read:path, $off:path) => {
         fn $run(case: &Case, count: usize) -> Duration {
             let (mut machine, mut lent) = (set_up::<$machine>(case), lent());
             if case.transparent {
@@ -143,7 +143,7 @@ macro_rules! calls_of {
             let start = Instant::now();
             match case.work {
                 Work::Step => repeat(count, |_| {
-                    black_box(machine.step(&lent.ram));
+                    black_box(machine.step(&lent.ram, [$off; 3]));
                 }),
                 Work::PageWrite => repeat(count, |i| {
                     let address = 0x6400 + i as u16 % 64;
@@ -169,7 +169,7 @@ macro_rules! calls_of {
                 }),
                 Work::Frame => repeat(312 * count, |_| {
                     black_box(machine.draw(&lent.ram, &lent.store, &mut lent.line));
-                    black_box(machine.step(&lent.ram));
+                    black_box(machine.step(&lent.ram, [$off; 3]));
                 }),
                 Work::Forecast => repeat(count, |_| {
                     black_box($forecast(&lent.ram, 0, 0));
@@ -198,9 +198,17 @@ calls_of!(
     Chip,
     plus::forecast,
     listing::print,
-    listing::read
+    listing::read,
+    plus::Access::Off
 );
-calls_of!(run_model, Model, chip::forecast, chip::print, chip::read);
+calls_of!(
+    run_model,
+    Model,
+    chip::forecast,
+    chip::print,
+    chip::read,
+    chip::Access::Off
+);
 
 fn repeat(count: usize, call: impl FnMut(usize)) {
     (0..count).for_each(call);

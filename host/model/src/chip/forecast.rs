@@ -30,23 +30,43 @@ pub fn list(ram: &[u8], start: u16) -> &[u8] {
     }
 }
 
-/// The answer, the lines and the channel's own cycles.
-pub fn forecast(ram: &[u8], start: u16, prescale: u8) -> (u8, u64, u64) {
-    if let Err(refusal) = find_stop(ram, start) {
-        return (refusal, 0, 0);
+/// The answer, the lines, and the least and the most of the channel's own cycles.
+#[derive(Clone, Copy, Debug, Default, PartialEq, Eq)]
+pub struct Length {
+    pub answer: u8,
+    pub lines: u64,
+    pub cycles: u64,
+    pub most: u64,
+}
+
+pub fn forecast(ram: &[u8], start: u16, prescale: u8) -> Length {
+    if let Err(answer) = find_stop(ram, start) {
+        return Length {
+            answer,
+            ..Length::default()
+        };
     }
     let words: Vec<u16> = list(ram, start)
         .chunks_exact(2)
         .map(|bytes| u16::from_le_bytes([bytes[0], bytes[1]]))
         .collect();
 
-    let (mut lines, mut cycles) = (0, 0);
+    let mut told = Length {
+        answer: answer::DONE,
+        ..Length::default()
+    };
+    let mut loads = 0;
     for (&word, passes) in words.iter().zip(passes(&words)) {
-        let (word_lines, word_cycles) = one_pass(word, prescale);
-        lines += passes * word_lines;
-        cycles += passes * word_cycles;
+        let (lines, cycles) = one_pass(word, prescale);
+        told.lines += passes * lines;
+        told.cycles += passes * cycles;
+        if kind_of(word) == Kind::Load {
+            loads += passes;
+        }
     }
-    (answer::DONE, lines, cycles)
+    // At worst the processor takes two cycles each time that a LOAD is executed.
+    told.most = told.cycles + 2 * loads;
+    told
 }
 
 /// Lines and cycles of one word, one time through.

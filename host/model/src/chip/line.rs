@@ -1,9 +1,9 @@
 //! One line: sound, raster compare, split compare, counters.
 
-use super::{answer, Did, Model, Report, RAM};
+use super::{answer, Access, Did, Model, Report, RAM};
 
 impl Model {
-    pub fn step(&mut self, ram: &[u8]) -> (u8, Report) {
+    pub fn step(&mut self, ram: &[u8], accesses: [Access; 3]) -> (u8, Report) {
         if ram.len() != RAM {
             return (
                 answer::WRONG_LENGTH,
@@ -13,7 +13,7 @@ impl Model {
                 },
             );
         }
-        let report = self.sound.line(ram);
+        let report = self.sound.line(ram, accesses);
         self.compare_raster();
         self.compare_split();
         self.count();

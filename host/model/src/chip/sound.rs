@@ -1,6 +1,6 @@
 //! The three sound channels on one line.
 
-use super::{Channel, Did, Kind, Report, Sound};
+use super::{Access, Channel, Did, Kind, Report, Sound};
 
 /// The word at an address, low byte first. RAM has its full length here.
 pub(super) fn word_at(ram: &[u8], address: u16) -> u16 {
@@ -80,9 +80,19 @@ impl Channel {
     }
 }
 
+/// A word's cycles after its fetch. Only a LOAD waits for the processor.
+fn cost_of(kind: Kind, access: Access) -> u8 {
+    match (kind, access) {
+        (Kind::Load, Access::Off) => 8,
+        (Kind::Load, Access::On) => 9,
+        (Kind::Load, Access::PsgWrite) => 10,
+        _ => 1,
+    }
+}
+
 impl Sound {
     /// All count, all active fetch, then they execute in order.
-    pub(super) fn line(&mut self, ram: &[u8]) -> Report {
+    pub(super) fn line(&mut self, ram: &[u8], accesses: [Access; 3]) -> Report {
         let mut report = Report {
             cycles: 1,
             did: [Did::SatOut; 3],
@@ -95,7 +105,7 @@ impl Sound {
         for (n, word) in words.into_iter().enumerate() {
             if let Some(word) = word {
                 let did = self.channels[n].execute(&mut self.psg, word);
-                report.cycles += 1 + if kind_of(word) == Kind::Load { 8 } else { 1 };
+                report.cycles += 1 + cost_of(kind_of(word), accesses[n]);
                 report.did[n] = did;
             }
         }

@@ -1,7 +1,7 @@
 //! One call of a script, made on a machine.
 
 use crate::machine::Machine;
-use plus::{Length, Report};
+use plus::{Access, Length, Report};
 
 /// Bytes that follow each buffer, for lengths above the right one.
 pub const SPARE: usize = 16;
@@ -41,6 +41,7 @@ pub enum Call {
     Acknowledge,
     Step {
         ram: usize,
+        accesses: [Access; 3],
     },
     Forecast {
         ram: usize,
@@ -147,8 +148,8 @@ impl Call {
                 let (number, vector) = machine.acknowledge();
                 Answer::Byte(number, vector)
             }
-            Call::Step { ram } => {
-                let (number, report) = machine.step(&lent.ram[..ram]);
+            Call::Step { ram, accesses } => {
+                let (number, report) = machine.step(&lent.ram[..ram], accesses);
                 Answer::Line(number, report)
             }
             Call::Forecast {

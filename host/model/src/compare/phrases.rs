@@ -1,7 +1,7 @@
 //! What a script says: phrases of calls that go together.
 
 use super::call::{Call, SPARE};
-use crate::random::{any_list, any_word, Random};
+use crate::random::{any_accesses, any_list, any_word, Random};
 use plus::{EXPORT, LINE, RAM, STORE, UNLOCK};
 
 /// The addresses around the edges of each block of registers.
@@ -254,7 +254,8 @@ impl Writer {
     fn steps(&mut self, most: u64) {
         for _ in 0..1 + self.random.below(most) {
             let ram = self.length(RAM);
-            self.push(Call::Step { ram });
+            let accesses = any_accesses(&mut self.random);
+            self.push(Call::Step { ram, accesses });
         }
     }
 

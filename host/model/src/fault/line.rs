@@ -1,16 +1,16 @@
 //! Faults of the raster, the split and the counters.
 
 use crate::machine::Fault;
-use plus::{answer, Chip, Report, RAM};
+use plus::{answer, Access, Chip, Report, RAM};
 
 /// A step that is refused steps all the same.
 pub struct SteppedThoughRefused;
 
 impl Fault for SteppedThoughRefused {
-    fn step(chip: &mut Chip, ram: &[u8]) -> (u8, Report) {
-        let stepped = chip.step(ram);
+    fn step(chip: &mut Chip, ram: &[u8], accesses: [Access; 3]) -> (u8, Report) {
+        let stepped = chip.step(ram, accesses);
         if stepped.0 != answer::DONE {
-            chip.step(&[0; RAM]);
+            chip.step(&[0; RAM], accesses);
         }
         stepped
     }
@@ -20,11 +20,11 @@ impl Fault for SteppedThoughRefused {
 pub struct RasterInAdjust;
 
 impl Fault for RasterInAdjust {
-    fn step(chip: &mut Chip, ram: &[u8]) -> (u8, Report) {
+    fn step(chip: &mut Chip, ram: &[u8], accesses: [Access; 3]) -> (u8, Report) {
         let mut outside = chip.clone();
         outside.crtc.counters.adjust = false;
-        outside.step(ram);
-        let stepped = chip.step(ram);
+        outside.step(ram, accesses);
+        let stepped = chip.step(ram, accesses);
         chip.interrupts.raster = outside.interrupts.raster;
         stepped
     }
@@ -34,7 +34,7 @@ impl Fault for RasterInAdjust {
 pub struct SplitLateInAdjust;
 
 impl Fault for SplitLateInAdjust {
-    fn step(chip: &mut Chip, ram: &[u8]) -> (u8, Report) {
+    fn step(chip: &mut Chip, ram: &[u8], accesses: [Access; 3]) -> (u8, Report) {
         let counters = chip.crtc.counters;
         let here = counters.vc % 32 * 8 + counters.rc % 8;
         if counters.adjust && chip.video.split_line != 0 && chip.video.split_line == here {
@@ -42,7 +42,7 @@ impl Fault for SplitLateInAdjust {
             chip.crtc.counters.held = true;
             chip.crtc.counters.split = u16::from_le_bytes(split);
         }
-        chip.step(ram)
+        chip.step(ram, accesses)
     }
 }
 
@@ -50,8 +50,8 @@ impl Fault for SplitLateInAdjust {
 pub struct SplitOnFirstLine;
 
 impl Fault for SplitOnFirstLine {
-    fn step(chip: &mut Chip, ram: &[u8]) -> (u8, Report) {
-        let stepped = chip.step(ram);
+    fn step(chip: &mut Chip, ram: &[u8], accesses: [Access; 3]) -> (u8, Report) {
+        let stepped = chip.step(ram, accesses);
         let counters = &mut chip.crtc.counters;
         if stepped.0 == answer::DONE && counters.held {
             counters.address = counters.split;
@@ -65,10 +65,10 @@ impl Fault for SplitOnFirstLine {
 pub struct AdvanceByRcAlone;
 
 impl Fault for AdvanceByRcAlone {
-    fn step(chip: &mut Chip, ram: &[u8]) -> (u8, Report) {
+    fn step(chip: &mut Chip, ram: &[u8], accesses: [Access; 3]) -> (u8, Report) {
         let sscr = chip.video.sscr;
         chip.video.sscr = 0;
-        let stepped = chip.step(ram);
+        let stepped = chip.step(ram, accesses);
         chip.video.sscr = sscr;
         stepped
     }

@@ -1,13 +1,18 @@
 //! Faults of the channels and of the forecast.
 
 use crate::machine::Fault;
-use plus::{kind, Chip, Length, Report};
+use plus::{kind, Access, Chip, Length, Report};
 
 /// A step, and then the loop counter of each channel that met a REPEAT K made
 /// anew, from its counter before and K.
-fn recounted(chip: &mut Chip, ram: &[u8], counter: impl Fn(u16, u16) -> u16) -> (u8, Report) {
+fn recounted(
+    chip: &mut Chip,
+    ram: &[u8],
+    accesses: [Access; 3],
+    counter: impl Fn(u16, u16) -> u16,
+) -> (u8, Report) {
     let before = chip.sound.channels;
-    let (answer, report) = chip.step(ram);
+    let (answer, report) = chip.step(ram, accesses);
     for (n, channel) in chip.sound.channels.iter_mut().enumerate() {
         if report.kinds[n] == kind::REPEAT {
             channel.counter = counter(before[n].counter, report.lows[n]);
@@ -20,8 +25,8 @@ fn recounted(chip: &mut Chip, ram: &[u8], counter: impl Fn(u16, u16) -> u16) -> 
 pub struct RepeatKTimes;
 
 impl Fault for RepeatKTimes {
-    fn step(chip: &mut Chip, ram: &[u8]) -> (u8, Report) {
-        recounted(chip, ram, |_, k| k.saturating_sub(1))
+    fn step(chip: &mut Chip, ram: &[u8], accesses: [Access; 3]) -> (u8, Report) {
+        recounted(chip, ram, accesses, |_, k| k.saturating_sub(1))
     }
 }
 
@@ -29,8 +34,13 @@ impl Fault for RepeatKTimes {
 pub struct OuterCountKept;
 
 impl Fault for OuterCountKept {
-    fn step(chip: &mut Chip, ram: &[u8]) -> (u8, Report) {
-        recounted(chip, ram, |outer, k| if outer == 0 { k } else { outer })
+    fn step(chip: &mut Chip, ram: &[u8], accesses: [Access; 3]) -> (u8, Report) {
+        recounted(
+            chip,
+            ram,
+            accesses,
+            |outer, k| if outer == 0 { k } else { outer },
+        )
     }
 }
 
@@ -38,9 +48,9 @@ impl Fault for OuterCountKept {
 pub struct EightRegisters;
 
 impl Fault for EightRegisters {
-    fn step(chip: &mut Chip, ram: &[u8]) -> (u8, Report) {
+    fn step(chip: &mut Chip, ram: &[u8], accesses: [Access; 3]) -> (u8, Report) {
         let upper = chip.sound.psg;
-        let stepped = chip.step(ram);
+        let stepped = chip.step(ram, accesses);
         chip.sound.psg[8..].copy_from_slice(&upper[8..]);
         stepped
     }
@@ -50,8 +60,8 @@ impl Fault for EightRegisters {
 pub struct HighestChannelFirst;
 
 impl Fault for HighestChannelFirst {
-    fn step(chip: &mut Chip, ram: &[u8]) -> (u8, Report) {
-        let (answer, report) = chip.step(ram);
+    fn step(chip: &mut Chip, ram: &[u8], accesses: [Access; 3]) -> (u8, Report) {
+        let (answer, report) = chip.step(ram, accesses);
         for n in (0..3).rev() {
             if report.kinds[n] == kind::LOAD {
                 let [data, register] = report.lows[n].to_le_bytes();
@@ -66,8 +76,8 @@ impl Fault for HighestChannelFirst {
 pub struct PauseOf0Counts;
 
 impl Fault for PauseOf0Counts {
-    fn step(chip: &mut Chip, ram: &[u8]) -> (u8, Report) {
-        let (answer, report) = chip.step(ram);
+    fn step(chip: &mut Chip, ram: &[u8], accesses: [Access; 3]) -> (u8, Report) {
+        let (answer, report) = chip.step(ram, accesses);
         for n in 0..3 {
             if report.kinds[n] == kind::PAUSE {
                 chip.sound.channels[n].count = 0;
@@ -81,8 +91,8 @@ impl Fault for PauseOf0Counts {
 pub struct ControlAsNothing;
 
 impl Fault for ControlAsNothing {
-    fn step(chip: &mut Chip, ram: &[u8]) -> (u8, Report) {
-        let (answer, mut report) = chip.step(ram);
+    fn step(chip: &mut Chip, ram: &[u8], accesses: [Access; 3]) -> (u8, Report) {
+        let (answer, mut report) = chip.step(ram, accesses);
         for reported in &mut report.kinds {
             if *reported == kind::CONTROL {
                 *reported = kind::NOTHING;

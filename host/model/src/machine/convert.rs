@@ -35,6 +35,16 @@ same! {
     Interrupts { raster, last_raster, ivr }
 }
 
+impl From<plus::Access> for chip::Access {
+    fn from(core: plus::Access) -> chip::Access {
+        match core {
+            plus::Access::Off => chip::Access::Off,
+            plus::Access::On => chip::Access::On,
+            plus::Access::PsgWrite => chip::Access::PsgWrite,
+        }
+    }
+}
+
 impl From<chip::Sound> for plus::Sound {
     fn from(model: chip::Sound) -> plus::Sound {
         plus::Sound {

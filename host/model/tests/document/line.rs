@@ -1,6 +1,6 @@
 //! Document 01, "One line": the counters and the screen address.
 
-use model::random::{any_state, Random};
+use model::random::{any_accesses, any_state, Random};
 use model::under_test::UnderTest;
 use model::{held, Machine};
 use plus::{Counters, Report, RAM, STORE};
@@ -15,7 +15,7 @@ fn address<M: Machine>(chip: &M) -> u16 {
     chip.state().crtc.counters.address
 }
 
-held!(a_step_refuses_other_lengths, fails_with SteppedThoughRefused);
+held!(a_step_refuses_other_lengths, fails_with SteppedThoughRefused, SatOutDisturbed);
 fn a_step_refuses_other_lengths<M: Machine>() {
     let mut random = Random(5);
     for length in [0, 1, STORE, RAM - 1, RAM + 1] {
@@ -30,9 +30,10 @@ fn a_step_refuses_other_lengths<M: Machine>() {
             kinds: [0; 3],
             lows: [0; 3],
         };
-        assert_eq!(chip.step(&vec![0; length]), (1, refused));
+        let accesses = any_accesses(&mut random);
+        assert_eq!(chip.step(&vec![0; length], accesses), (1, refused));
         assert_eq!(chip.state(), before);
-        assert_eq!(chip.step(&[0; RAM]).0, 0);
+        assert_eq!(chip.plain_step(&[0; RAM]).0, 0);
         assert_ne!(chip.state(), before);
     }
 }

@@ -324,7 +324,7 @@ fn the_lost_pressing<M: Machine>() {
         assert_eq!(chip.exported(), untouched.exported());
         let drawn = [&mut untouched, &mut chip].map(|chip| chip.drawn(&ram, &[0; STORE]));
         assert_eq!(drawn[0], drawn[1]);
-        assert_eq!(untouched.step(&ram), chip.step(&ram));
+        assert_eq!(untouched.plain_step(&ram), chip.plain_step(&ram));
         lines += 1;
     }
     assert_eq!(lines, 10);

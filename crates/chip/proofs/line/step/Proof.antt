@@ -37,7 +37,7 @@ returns-2 c =
       answer = simp kept;
       chip = simp (kept, sounded, line);
       report = simp (kept, sounded);
-      bound = simp sounded (line-cycles _ _);
+      bound = simp sounded (line-cycles _ _ _);
     }
 
 pub step-spec : {M : Type 1} → statement M

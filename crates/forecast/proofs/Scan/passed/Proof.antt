@@ -1,6 +1,7 @@
--- `forecast::Scan::passed`: the word added to both sums.
+-- `forecast::Scan::passed`: the word added to each sum.
 use native.Mathlib.Omega.{arith}
 use borrow.Author.Needs.{needs}
+use Rattle.sound.specs.declared.Access.the-variants.{Off, PsgWrite}
 use Rattle.forecast.proofs.Pass.{lines-small, cycles-small}
 use Rattle.forecast.proofs.Scan.passed.Statement.{statement}
 use Rattle.forecast.proofs.Scan.passed.Tie as tie
@@ -19,8 +20,16 @@ cycles-of-requires c κs = search needs
 
 added-requires-2 : tie.Need-added-requires-2
 added-requires-2 c κs =
-    let small = cycles-small (c .before .before .before .before .before .args .word) in
-    (c .before .before .before .before .before .pre .cycles, (rw (c .cycles-of .ensures) small, c .before .before .before .before .before .pre .count))
+    let start = c .before .before .before .before .before in
+    (start .pre .cycles, (rw (c .cycles-of .ensures) (cycles-small Off (start .args .word)), start .pre .count))
+
+cycles-of-requires-2 : tie.Need-cycles-of-requires-2
+cycles-of-requires-2 c κs = search needs
+
+added-requires-3 : tie.Need-added-requires-3
+added-requires-3 c κs =
+    let start = c .before .before .before .before .before .before .before .before in
+    (start .pre .most, (rw (c .cycles-of2 .ensures) (cycles-small PsgWrite (start .args .word)), start .pre .count))
 
 open-count-requires : tie.Need-open-count-requires
 open-count-requires c κs = search needs
@@ -28,10 +37,12 @@ open-count-requires c κs = search needs
 returns : tie.Need-returns
 returns c =
     simp (
-      c .before .before .before .before .added .ensures,
-      c .before .before .before .before .before .lines-of .ensures,
-      c .before .added2 .ensures,
-      c .before .before .cycles-of .ensures,
+      c .before .before .before .before .before .before .before .added .ensures,
+      c .before .before .before .before .before .before .before .before .lines-of .ensures,
+      c .before .before .before .before .added2 .ensures,
+      c .before .before .before .before .before .cycles-of .ensures,
+      c .before .added3 .ensures,
+      c .before .before .cycles-of2 .ensures,
       c .open-count .ensures,
     )
 
@@ -43,5 +54,7 @@ passed-spec =
     added-requires
     cycles-of-requires
     added-requires-2
+    cycles-of-requires-2
+    added-requires-3
     open-count-requires
     returns)

@@ -12,6 +12,7 @@ use Rattle.words.specs.Choice.{if}
 use Rattle.words.specs.Words.{isLoad}
 use Rattle.words.specs.declared.WordKind.{WordKind}
 use Rattle.words.specs.declared.WordKind.the-variants.{Load, Pause, Repeat, Control, Nothing}
+use Rattle.sound.specs.declared.Access.{Access}
 use Rattle.sound.specs.declared.Did.{Did}
 use Rattle.sound.specs.declared.Did.the-variants.{SatOut, Executed}
 use Rattle.sound.specs.declared.Tally.{Tally}
@@ -35,12 +36,12 @@ registers : (psg : List ℕ) (d : Did) (k : WordKind) (n : ℕ) (b : Bool) → d
 registers psg d k n b e f = rw (e, f) (by-kind psg k n)
 
 -- the tally after a channel that executed a word, and after one that sat out
-word : (t : Tally) (d : Did) (psg : List ℕ) (own : ℕ) → psg ≡ loaded (t .psg) d → own ≡ ownCycles d →
-    record { psg = psg; cycles = t .cycles + own } ≡ tallied t d
-word t d psg own e f = rw (e, f)
+word : (t : Tally) (a : Access) (d : Did) (psg : List ℕ) (own : ℕ) → psg ≡ loaded (t .psg) d → own ≡ ownCycles a d →
+    record { psg = psg; cycles = t .cycles + own } ≡ tallied t a d
+word t a d psg own e f = rw (e, f)
 
-idle : (t : Tally) (d : Did) → d ≡ SatOut → t ≡ tallied t d
-idle t d e = rw (e, add-zero)
+idle : (t : Tally) (a : Access) (d : Did) → d ≡ SatOut → t ≡ tallied t a d
+idle t a d e = rw (e, add-zero)
 
 enum-told : tie.Need-enum-told
 enum-told c = search needs
@@ -52,7 +53,7 @@ own-cycles-requires : tie.Need-own-cycles-requires
 own-cycles-requires c κs = tt
 
 add-cycles : tie.Need-add-cycles
-add-cycles c = omega (arith, own-bound (c .before .before .before .before .before .args .self .did))
+add-cycles c = let a = c .before .before .before .before .before .args in omega (arith, own-bound (a .access) (a .self .did))
 
 is-load-requires : tie.Need-is-load-requires
 is-load-requires c κs = tt
@@ -63,6 +64,7 @@ returns c =
     let a = c .before .before .before .before .before .before .before .before .args in
     word
     (a .before)
+    (a .access)
     (a .self .did)
     _
     _
@@ -79,7 +81,7 @@ array-write-psg : tie.Need-array-write-psg
 array-write-psg c = search needs
 
 returns-2 : tie.Need-returns-2
-returns-2 c = idle _ _ (c .enum-told .given .1)
+returns-2 c = idle _ _ _ (c .enum-told .given .1)
 
 returns-3 : tie.Need-returns-3
 returns-3 c =
@@ -87,6 +89,7 @@ returns-3 c =
     let a = c .before .before .before .before .before .before .before .before .args in
     word
     (a .before)
+    (a .access)
     (a .self .did)
     _
     _
