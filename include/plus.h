@@ -1,18 +1,22 @@
 /* The Plus chip core. Link libplus.a, which `rt staticlib plus` builds.
  *
  * The chip's state goes in by value and comes back in the answer; the library keeps nothing between calls. Every call but
- * plus_reset and plus_grey, which can't be refused, has an answer number. With a refusal, that is any other than 0, the state
- * and the buffers are as they were and every other number in the answer is 0, but for the number of a bad line. Any contents of
- * the structs are served, but a bool must be 0 or 1.
+ * plus_reset, plus_grey, plus_take_pack, plus_take_unpack and plus_take_record, which can't be refused, has an answer number. With
+ * a refusal, that is any other than 0, the state and the buffers are as they were and every other number in the answer is 0, but
+ * for the number of a bad line or of a bad record. Any contents of the structs are served, but a bool must be 0 or 1.
  *
  * A buffer is a pointer, never NULL, and its length: PLUS_RAM bytes for RAM, PLUS_STORE for the sprite pixel store, PLUS_LINE for
- * a drawn line, PLUS_EXPORT for an export. A text has any number of bytes, and the length of sound words is counted in words. The
- * buffers of one call must not overlap.
+ * a drawn line, PLUS_EXPORT for an export. A text and a take have any number of bytes, and the length of sound words and of
+ * records is counted in these. The buffers of one call must not overlap.
  *
  * The page writes that can be undone stand in PLUS_PLACES numbers, which a host keeps beside the chip: it lends the same ones,
  * as the last call left them, to every page write and undo of that chip. They need not be set at first, nor after a reset. The
  * newest is at place editing.undo.next - 1 (255 where that is 0), the one before it at the place before, and so on round, as
- * many as editing.undo.count says; each is the address written to, times 256, plus the register's contents before. */
+ * many as editing.undo.count says; each is the address written to, times 256, plus the register's contents before.
+ *
+ * A take is a file: a comment of any bytes, records of PLUS_TAKE_RECORD bytes, and a trailer of PLUS_TAKE_TRAILER bytes, which has
+ * the record count, the offset of the first record, 4 bytes each, and the letters PLTK. A record has the line number in 4 bytes,
+ * the kind in 1, the address in 2 and the value in 1. All numbers stand low byte first. */
 #ifndef PLUS_H
 #define PLUS_H
 
@@ -29,19 +33,26 @@ enum { PLUS_RAM = 65536, PLUS_STORE = 4096, PLUS_LINE = 640, PLUS_EXPORT = 477, 
 /* The most bytes that a word's line of text has, its LF with them: `LOOP+INT+STOP`. */
 enum { PLUS_LONGEST_LINE = 14 };
 
+/* Bytes of a take: a record, and the trailer. */
+enum { PLUS_TAKE_RECORD = 8, PLUS_TAKE_TRAILER = 12 };
+
 /* The numbers a call can answer. The lowest that applies is given. */
 enum {
-    PLUS_DONE = 0,            /* done */
-    PLUS_WRONG_LENGTH = 1,    /* a buffer has another length than its call wants */
-    PLUS_NOT_MAPPED = 2,      /* the page is not mapped, or the address is not in it (4000h to 7FFFh) */
-    PLUS_NOTHING_THERE = 3,   /* no register there that could be written */
-    PLUS_MODE_THREE = 4,      /* a line in screen mode 3 can't be drawn */
-    PLUS_NO_INTERRUPT = 5,    /* nothing to acknowledge */
-    PLUS_NO_STOP = 6,         /* the list has no STOP up to the end of RAM */
-    PLUS_NOT_LISTING = 7,     /* a line of the text is no word's */
-    PLUS_TOO_SMALL = 8,       /* the buffer has no room for all of the text, or of the words */
-    PLUS_CONVERTER_THERE = 9, /* an analogue converter (6808h to 680Fh), which can only be read */
-    PLUS_NOTHING_TO_UNDO = 10 /* no page write is left that could be undone */
+    PLUS_DONE = 0,             /* done */
+    PLUS_WRONG_LENGTH = 1,     /* a buffer has another length than its call wants */
+    PLUS_NOT_MAPPED = 2,       /* the page is not mapped, or the address is not in it (4000h to 7FFFh) */
+    PLUS_NOTHING_THERE = 3,    /* no register there that could be written */
+    PLUS_MODE_THREE = 4,       /* a line in screen mode 3 can't be drawn */
+    PLUS_NO_INTERRUPT = 5,     /* nothing to acknowledge */
+    PLUS_NO_STOP = 6,          /* the list has no STOP up to the end of RAM */
+    PLUS_NOT_LISTING = 7,      /* a line of the text is no word's */
+    PLUS_TOO_SMALL = 8,        /* the buffer has no room for all of the text, or of the words */
+    PLUS_CONVERTER_THERE = 9,  /* an analogue converter (6808h to 680Fh), which can only be read */
+    PLUS_NOTHING_TO_UNDO = 10, /* no page write is left that could be undone */
+    PLUS_NO_TRAILER = 11,      /* the file is shorter than a trailer, or has other letters at its end */
+    PLUS_NOT_MET = 12,         /* the records, by the trailer's offset and count, don't end where the trailer begins */
+    PLUS_BAD_RECORD = 13,      /* a record is bad */
+    PLUS_NO_ROOM = 14          /* the buffer has no room for the take, or its count or offset has no room in 4 bytes */
 };
 
 /* What a channel did on a line. */
@@ -60,6 +71,16 @@ enum {
     PLUS_OFF = 0,      /* it is off the 8255 */
     PLUS_ON = 1,       /* it is on it: the LOAD takes a cycle more */
     PLUS_PSG_WRITE = 2 /* it writes a PSG register there: the LOAD takes two more */
+};
+
+/* The kind of a record: which call it is. */
+enum {
+    PLUS_TAKE_WRITE_BC = 1,
+    PLUS_TAKE_WRITE_BD = 2,
+    PLUS_TAKE_WRITE_7F = 3,
+    PLUS_TAKE_PAGE_WRITE = 4,  /* the only one with an address */
+    PLUS_TAKE_ACKNOWLEDGE = 5, /* neither this nor undo has a value */
+    PLUS_TAKE_UNDO = 6
 };
 
 /* The state. */
@@ -189,6 +210,28 @@ typedef struct {
     size_t line;  /* with 7 the first bad line, from 1 */
 } PlusReadBack;
 
+/* One call of a take. It is bad if its kind is none of the above, if its kind has no address or no value and that is not 0, or if
+ * its line number is below that of the record before it. */
+typedef struct {
+    uint32_t line; /* line steps from the reset up to the call */
+    uint8_t kind;  /* PLUS_TAKE_WRITE_BC to PLUS_TAKE_UNDO */
+    uint16_t address;
+    uint8_t value;
+} PlusRecord;
+
+typedef struct {
+    uint8_t answer;
+    size_t size; /* bytes of the file written */
+    size_t bad;  /* with 13 the first bad record, from 1 */
+} PlusWritten;
+
+typedef struct {
+    uint8_t answer;
+    size_t bad;    /* with 13 the first bad record, from 1 */
+    size_t count;  /* records */
+    size_t offset; /* where the first of them stands: the comment is all of the file before it */
+} PlusOpened;
+
 /* The calls. */
 
 /* The chip after reset, with nothing to undo. No answer number: nothing can refuse it. */
@@ -243,6 +286,26 @@ PlusPrinted plus_print(const uint16_t *words, size_t words_length, uint8_t *text
 /* Reads such a text back; what lies beyond the words stays. No other text is read, so that printing the words gives it again. A
  * text has as many words as it has LFs. Answers 0, 7 or 8. */
 PlusReadBack plus_read(const uint8_t *text, size_t text_length, uint16_t *words, size_t words_length);
+
+/* A record as one number, in which it is lent to plus_take_write: the number that its PLUS_TAKE_RECORD bytes in a file say. No
+ * answer number. */
+uint64_t plus_take_pack(PlusRecord record);
+
+/* The record in such a number; every number has one. No answer number. */
+PlusRecord plus_take_unpack(uint64_t number);
+
+/* Writes a take: the comment, the records and the trailer. It has comment_length + PLUS_TAKE_RECORD * records_length +
+ * PLUS_TAKE_TRAILER bytes; what lies beyond it stays. Answers 0, 13 or 14. */
+PlusWritten plus_take_write(const uint8_t *comment, size_t comment_length, const uint64_t *records, size_t records_length,
+                            uint8_t *output, size_t output_length);
+
+/* Tests a whole take, and says where its parts are: offset bytes of comment, then count records, then the trailer. Answers 0, 11,
+ * 12 or 13. */
+PlusOpened plus_take_open(const uint8_t *file, size_t file_length);
+
+/* The record of a take with a number, from 1. With any other number than 1 to the count, and in a file that plus_take_open answers
+ * 11 or 12 for, the record that is all 0, which has no kind. No answer number. */
+PlusRecord plus_take_record(const uint8_t *file, size_t file_length, size_t number);
 
 #ifdef __cplusplus
 }

@@ -1,5 +1,6 @@
 /* Reads a sound list from text and prints it, forecasts it, then plays it on channel 0 up to its STOP and counts the same numbers: the
- * least cycles with the processor off the 8255, the most with PSG register writes on every line. A slip on the way is undone. */
+ * least cycles with the processor off the 8255, the most with PSG register writes on every line. A slip on the way is undone. The page
+ * writes and the undo are written as a take, which is opened again. */
 #include <stdio.h>
 #include <stdlib.h>
 #include <string.h>
@@ -12,6 +13,8 @@ static const char song[] = "LOAD 7 38\nPAUSE 2\nSTOP\n";
 
 static uint8_t ram[PLUS_RAM], store[PLUS_STORE];
 static uint32_t places[PLUS_PLACES]; /* the page writes that can be undone */
+static uint64_t records[16];         /* the calls noted, all of them on line 0 */
+static size_t noted;
 
 /* Ends the program at a refusal. */
 static void served(const char *call, uint8_t answer) {
@@ -21,9 +24,15 @@ static void served(const char *call, uint8_t answer) {
     }
 }
 
+static void note(uint8_t kind, uint16_t address, uint8_t value) {
+    PlusRecord record = {.line = 0, .kind = kind, .address = address, .value = value};
+    records[noted++] = plus_take_pack(record);
+}
+
 static PlusChip poke(PlusChip chip, uint16_t address, uint8_t byte) {
     PlusAnswered written = plus_page_write(chip, store, sizeof store, places, address, byte);
     served("page write", written.answer);
+    note(PLUS_TAKE_PAGE_WRITE, address, byte);
     return written.chip;
 }
 
@@ -46,12 +55,27 @@ static void put_list(const char *listing, uint16_t start) {
 static PlusChip undo(PlusChip chip) {
     PlusAnswered undone = plus_undo(chip, store, sizeof store, places);
     served("undo", undone.answer);
+    note(PLUS_TAKE_UNDO, 0, 0);
     return undone.chip;
+}
+
+/* The calls noted as a take, and what opening it says. */
+static void put_take(const char *comment) {
+    uint8_t file[256];
+    PlusWritten written = plus_take_write((const uint8_t *)comment, strlen(comment), records, noted, file, sizeof file);
+    served("take", written.answer);
+
+    PlusOpened opened = plus_take_open(file, written.size);
+    served("open", opened.answer);
+    PlusRecord last = plus_take_record(file, written.size, opened.count);
+    printf("take: %zu bytes of %.*s, %zu records, the last %u to %04Xh\n", written.size, (int)opened.offset, (const char *)file,
+           opened.count, last.value, last.address);
 }
 
 /* A chip whose channel 0 is about to play the list. */
 static PlusChip ready(void) {
     PlusChip chip = plus_reset();
+    noted = 0;
     for (size_t i = 0; i < sizeof unlock; i++)
         chip = plus_write_bc(chip, unlock[i]).chip;
     chip = plus_write_7f(chip, 0xB8).chip; /* maps the page in */
@@ -84,5 +108,6 @@ int main(void) {
            (unsigned long long)told.cycles, (unsigned long long)told.most, told.length, told.offset);
     play("played", PLUS_OFF);
     play("played beside PSG writes", PLUS_PSG_WRITE);
+    put_take("a song");
     return 0;
 }

@@ -8,6 +8,9 @@ use page::ByteRead;
 use sound::Accesses;
 use sound::Did;
 use sound::Entry;
+use take::Opened;
+use take::Record;
+use take::Written;
 use words::WordKind;
 use words::answer::DONE;
 ghost use mathlib.Core.Path.{_≡_};
@@ -22,6 +25,9 @@ ghost use Rattle.export.specs.Export.{Exports};
 ghost use Rattle.draw.specs.Drawing.{Draws};
 ghost use Rattle.listing.specs.Print.{Printing};
 ghost use Rattle.listing.specs.Read.{Reading};
+ghost use Rattle.take.specs.Record.{packed, unpacked};
+ghost use Rattle.take.specs.Write.{Writing};
+ghost use Rattle.take.specs.Open.{Opening, recordAt};
 ghost use Rattle.plus.specs.Report.{accessesBy, kindNumber, lowOf, kindsOf, lowsOf};
 ghost use Rattle.plus.specs.Promises.{StepReported, LengthTold};
 
@@ -258,4 +264,44 @@ pub extern "C" fn plus_read(text: &[u8], words: &mut [u16]) -> ReadBack
     ensures { λ r. ⌜ Reading (now (text .entry)) (now (words .entry)) (now (words .exit)) (r .answer) (r .count) (r .line) ⌝ }
 {
     listing::read(text, words)
+}
+
+// A record of a take as a number of 64 bits.
+#[no_mangle]
+pub extern "C" fn plus_take_pack(entry: Record) -> u64
+    ensures { λ r. ⌜ r ≡ packed entry ⌝ }
+{
+    take::pack(entry)
+}
+
+// The record in such a number.
+#[no_mangle]
+pub extern "C" fn plus_take_unpack(number: u64) -> Record
+    ensures { λ r. ⌜ r ≡ unpacked number ⌝ }
+{
+    take::unpack(number)
+}
+
+// Writes a take, its records lent as numbers.
+#[no_mangle]
+pub extern "C" fn plus_take_write(comment: &[u8], records: &[u64], output: &mut [u8]) -> Written
+    ensures { λ r. ⌜ Writing (now (comment .entry)) (now (records .entry)) (now (output .entry)) (now (output .exit)) (r .answer) (r .size) (r .bad) ⌝ }
+{
+    take::write(comment, records, output)
+}
+
+// Opens a take: its record count, and the offset of its first record.
+#[no_mangle]
+pub extern "C" fn plus_take_open(file: &[u8]) -> Opened
+    ensures { λ r. ⌜ Opening (now (file .entry)) (r .answer) (r .bad) (r .count) (r .offset) ⌝ }
+{
+    take::open(file)
+}
+
+// The record of a take with this number, from 1.
+#[no_mangle]
+pub extern "C" fn plus_take_record(file: &[u8], number: usize) -> Record
+    ensures { λ r. ⌜ r ≡ recordAt (now (file .entry)) number ⌝ }
+{
+    take::record_at(file, number)
 }

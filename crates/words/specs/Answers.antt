@@ -47,6 +47,22 @@ converterThere = 9
 abbrev pub nothingToUndo : ℕ
 nothingToUndo = 10
 
+-- a file has no trailer, or other letters
+abbrev pub noTrailer : ℕ
+noTrailer = 11
+
+-- a take's offset and count do not meet its trailer
+abbrev pub notMet : ℕ
+notMet = 12
+
+-- a take has a bad record
+abbrev pub badRecord : ℕ
+badRecord = 13
+
+-- the output is too small for a take, or its count or offset too large
+abbrev pub noRoom : ℕ
+noRoom = 14
+
 -- what a served call gives, or what stands in its place where the number is a refusal
 abbrev pub served : {A : Type 0} → ℕ → A → A → A
 served number x other = if (eqb number done) x other

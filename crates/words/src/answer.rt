@@ -28,5 +28,17 @@ pub const TOO_SMALL: u8 = 8;
 // a converter there, which is only read;
 pub const CONVERTER_THERE: u8 = 9;
 
-// nothing left to undo.
+// nothing left to undo;
 pub const NOTHING_TO_UNDO: u8 = 10;
+
+// a file has no trailer, or other letters;
+pub const NO_TRAILER: u8 = 11;
+
+// a take's offset and count don't meet its trailer;
+pub const NOT_MET: u8 = 12;
+
+// a take has a bad record;
+pub const BAD_RECORD: u8 = 13;
+
+// the output is too small for a take, or its count or offset too large.
+pub const NO_ROOM: u8 = 14;

@@ -6,7 +6,9 @@ mod frame;
 mod install;
 mod list;
 mod read;
+mod records;
 mod run;
+mod take;
 
 use crate::failure::Failure;
 use crate::help;
@@ -19,11 +21,14 @@ use std::fs;
 use std::path::Path;
 
 /// A command: its name, what it is given (in brackets and last what may be left
-/// out), what it does in a line, all that there is to know of it, and the function
-/// that does it.
+/// out), the option that it takes and the word after that, what it does in a line,
+/// all that there is to know of it, and the function that does it. This gets the
+/// arguments and behind them the option's word, if it was given; so a command with
+/// an option has no argument that may be left out.
 pub struct Command {
     pub name: &'static str,
     pub arguments: &'static [&'static str],
+    pub option: Option<(&'static str, &'static str)>,
     pub about: &'static str,
     pub details: &'static str,
     pub run: fn(&[OsString], &mut Output) -> Done,
@@ -35,6 +40,8 @@ pub const COMMANDS: &[Command] = &[
     list::COMMAND,
     read::COMMAND,
     run::COMMAND,
+    take::COMMAND,
+    records::COMMAND,
     frame::COMMAND,
     export::COMMAND,
     install::COMMAND,
@@ -66,20 +73,44 @@ impl Command {
         if words.iter().any(|word| word == "--help" || word == "-h") {
             return help::of(self, output);
         }
-        if let Some(option) = words.iter().find(|word| is_option(word)) {
-            let wrong = format!("there is no option '{}'", option.display());
-            return Err(help::wrong_for(self, &wrong));
+        let mut words = words.to_vec();
+        let optional = self.take_option(&mut words)?;
+        if let Some(option) = words.iter().chain(&optional).find(|word| is_option(word)) {
+            return Err(self.wrong(format!("there is no option '{}'", option.display())));
         }
         let missing = self.arguments.get(words.len());
         if let Some(argument) = missing.filter(|argument| !argument.starts_with('[')) {
-            let wrong = format!("{argument} is missing");
-            return Err(help::wrong_for(self, &wrong));
+            return Err(self.wrong(format!("{argument} is missing")));
         }
         if let Some(extra) = words.get(self.arguments.len()) {
             let wrong = format!("'{}' is one argument too many", extra.display());
-            return Err(help::wrong_for(self, &wrong));
+            return Err(self.wrong(wrong));
         }
-        (self.run)(words, output)
+        words.extend(optional);
+        (self.run)(&words, output)
+    }
+
+    /// Takes its option out of the words, and gives the word after it.
+    fn take_option(&self, words: &mut Vec<OsString>) -> Result<Option<OsString>, Failure> {
+        let Some((option, name)) = self.option else {
+            return Ok(None);
+        };
+        let Some(at) = words.iter().position(|word| word == option) else {
+            return Ok(None);
+        };
+        if at + 1 == words.len() {
+            return Err(self.wrong(format!("{name} is missing")));
+        }
+        words.remove(at);
+        let word = words.remove(at);
+        if words.iter().any(|word| word == option) {
+            return Err(self.wrong(format!("{option} is given twice")));
+        }
+        Ok(Some(word))
+    }
+
+    fn wrong(&self, what: String) -> Failure {
+        help::wrong_for(self, &what)
     }
 }
 

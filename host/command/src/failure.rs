@@ -1,6 +1,8 @@
 //! Why a command gave nothing, what it says then, and its exit status.
 
 use crate::scene::Short;
+use plus::answer;
+use plus::take::Refused;
 use std::fmt;
 use std::io::{self, Write};
 use std::path::{Path, PathBuf};
@@ -11,27 +13,45 @@ use std::process::ExitCode;
 pub enum Failure {
     /// Wrong use: what was wrong, and what is expected.
     Usage { wrong: String, expected: String },
-    /// A call of the core was refused: its number, the line of a text that it
-    /// names, and what that means here.
+    /// A call of the core was refused: its number, the line of a text or the
+    /// record of a take that it names, and what that means here.
     Refused {
         number: u8,
-        line: Option<usize>,
+        place: Option<(&'static str, usize)>,
         meaning: String,
     },
     /// A file can't be read or written.
     File { path: PathBuf, error: io::Error },
     /// A scene ends early.
     Short { path: PathBuf, short: Short },
+    /// A scene has no take.
+    NoTake { path: PathBuf, why: String },
     /// Standard output can't be written.
     Output(io::Error),
 }
 
 impl Failure {
-    /// A refusal that names no line.
+    /// A refusal that names no place.
     pub fn refused(number: u8, meaning: String) -> Failure {
         Failure::Refused {
             number,
-            line: None,
+            place: None,
+            meaning,
+        }
+    }
+
+    /// A refusal of a take, with what each number means.
+    pub fn refused_take(refused: Refused, path: &Path) -> Failure {
+        let name = path.display();
+        let meaning = match refused.answer {
+            answer::NO_TRAILER => format!("{name} has no trailer"),
+            answer::NOT_MET => format!("the records of {name} don't end at its trailer"),
+            answer::BAD_RECORD => format!("that record of {name} is bad"),
+            _ => format!("{name} would be too long"),
+        };
+        Failure::Refused {
+            number: refused.answer,
+            place: (refused.record != 0).then_some(("record", refused.record)),
             meaning,
         }
     }
@@ -67,17 +87,18 @@ impl fmt::Display for Failure {
             Failure::Usage { wrong, expected } => write!(f, "{wrong}\n{expected}"),
             Failure::Refused {
                 number,
-                line,
+                place,
                 meaning,
             } => {
                 write!(f, "refused {number}")?;
-                if let Some(line) = line {
-                    write!(f, " line {line}")?;
+                if let Some((part, place)) = place {
+                    write!(f, " {part} {place}")?;
                 }
                 write!(f, ": {meaning}")
             }
             Failure::File { path, error } => write!(f, "{}: {error}", path.display()),
             Failure::Short { path, short } => write!(f, "{}: {short}", path.display()),
+            Failure::NoTake { path, why } => write!(f, "{}: no take: {why}", path.display()),
             Failure::Output(error) => write!(f, "standard output: {error}"),
         }
     }

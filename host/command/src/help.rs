@@ -11,8 +11,9 @@ const COMMON: &str = "\
 Exit status: 0 done; 1 refused by the core, a file that can't be read or
 written, or a scene that ends early; 2 wrong use. Why is said on standard
 error; a refusal begins with `refused` and its number, then for a bad line of
-a text `line` and the line's number. It prints nothing on standard output and
-leaves an output file alone.";
+a text `line` and the line's number, for a bad record of a take `record` and
+the record's. It prints nothing on standard output and leaves an output file
+alone.";
 
 /// `plus help [COMMAND]`.
 pub fn show(words: &[OsString], output: &mut Output) -> Done {
@@ -62,9 +63,13 @@ fn usage(command: &Command) -> String {
     format!("usage: plus {}", call(command))
 }
 
-/// A command's name and arguments.
+/// A command's name, its arguments, and its option if it has one.
 fn call(command: &Command) -> String {
-    [&[command.name], command.arguments].concat().join(" ")
+    let mut call = [&[command.name], command.arguments].concat().join(" ");
+    if let Some((option, word)) = command.option {
+        call += &format!(" [{option} {word}]");
+    }
+    call
 }
 
 fn overview() -> String {

@@ -1,11 +1,12 @@
 //! The playing of a scene: each record's call, made on the proved core.
 
 use crate::scene::Record;
-use plus::{answer, Access, Chip, Length, Report, EXPORT, LINE};
+use plus::take::{Noted, Recorder};
+use plus::{answer, Access, Length, Report, EXPORT, LINE};
 
-/// A chip, and what is lent to it.
+/// A chip that notes every call that is served, and what is lent to it.
 pub struct Player {
-    pub chip: Chip,
+    pub chip: Recorder,
     pub ram: Vec<u8>,
     pub store: Vec<u8>,
 }
@@ -32,7 +33,7 @@ impl Player {
     /// After reset, with RAM and store of the right lengths.
     pub fn new(ram: &[u8], store: &[u8]) -> Player {
         Player {
-            chip: Chip::new(),
+            chip: Recorder::new(Noted::Served),
             ram: ram.to_vec(),
             store: store.to_vec(),
         }

@@ -11,12 +11,14 @@ mod lock;
 mod page;
 mod ports;
 mod sound;
+mod take;
 mod undo;
 
 pub use draw::byte_address;
 pub use forecast::{forecast, list, Length};
 pub use listing::{print, read};
 pub use page::grey;
+pub use take::{take_open, take_record, take_write, Record};
 
 use lock::History;
 
@@ -33,6 +35,10 @@ pub mod answer {
     pub const TOO_SMALL: u8 = 8;
     pub const CONVERTER_THERE: u8 = 9;
     pub const NOTHING_TO_UNDO: u8 = 10;
+    pub const NO_TRAILER: u8 = 11;
+    pub const NOT_MET: u8 = 12;
+    pub const BAD_RECORD: u8 = 13;
+    pub const NO_ROOM: u8 = 14;
 }
 
 /// Lengths of the lent buffers.

@@ -7,6 +7,7 @@ mod differ;
 pub mod listing;
 mod phrases;
 mod script;
+pub mod take;
 
 pub use call::{Answer, Buffers, Call};
 pub use script::Script;

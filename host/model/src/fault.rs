@@ -10,6 +10,7 @@ mod page;
 mod ports;
 mod processor;
 mod sound;
+mod take;
 mod undo;
 
 pub use drawing::{HighestSpriteFirst, ModeThreeDrawn, ScrollOf3Bits};
@@ -38,6 +39,13 @@ pub use processor::{
 pub use sound::{
     ControlAsNothing, EightRegisters, HighestChannelFirst, ListWithoutStop, LoopInStopWord,
     OuterCountKept, PauseOf0Counts, RepeatKTimes,
+};
+pub use take::{
+    AddressHighFirst, BadRecordFrom0, BeyondTakeCleared, CommentThoughRefused,
+    CountAndOffsetSwapped, CountThoughBad, EndBy32Bits, FallingLineAccepted, FullRoomRefused,
+    GapAllowed, Kind0Accepted, Kind7Accepted, KindByValue, LineBy16Bits, MetBeforeLetters,
+    NoRecordsThoughMet, OffsetCut, PortWithAddress, RecordFrom0, RecordsBeforeMet,
+    RoomBeforeRecords, SameLineBad, ThreeLetters, TrailerOf11, UndoWithValue,
 };
 pub use undo::{
     CapturedSplitBack, DcsrKept, EmptyFirst, EmptyServed, OtherByteToo, PixelBackBy4Bits,

@@ -6,6 +6,7 @@ mod convert;
 
 use crate::chip::{self, Did, Kind, Model};
 use plus::listing::{self, Printed, ReadBack};
+use plus::take::{self, Opened, Record, Written};
 use plus::{kind, Access, Chip, Editing, Length, Report, State};
 use std::marker::PhantomData;
 use std::mem;
@@ -155,6 +156,22 @@ calls! {
 
         /// A text read back as words.
         fn read(text: &[u8], words: &mut [u16]) -> ReadBack = listing::read;
+
+        /// A record as a number.
+        fn take_pack(record: Record) -> u64 = take::pack;
+
+        /// The record in a number.
+        fn take_unpack(number: u64) -> Record = take::unpack;
+
+        /// A take written.
+        fn take_write(comment: &[u8], records: &[u64], output: &mut [u8]) -> Written =
+            take::write;
+
+        /// A take opened.
+        fn take_open(file: &[u8]) -> Opened = take::open;
+
+        /// A take's record of a number.
+        fn take_record(file: &[u8], number: usize) -> Record = take::record_at;
     }
 }
 
@@ -276,6 +293,33 @@ impl Machine for Model {
             count,
             line,
         }
+    }
+
+    fn take_pack(record: Record) -> u64 {
+        chip::Record::from(record).number()
+    }
+
+    fn take_unpack(number: u64) -> Record {
+        chip::Record::from_number(number).into()
+    }
+
+    fn take_write(comment: &[u8], records: &[u64], output: &mut [u8]) -> Written {
+        let (answer, size, bad) = chip::take_write(comment, records, output);
+        Written { answer, size, bad }
+    }
+
+    fn take_open(file: &[u8]) -> Opened {
+        let (answer, bad, count, offset) = chip::take_open(file);
+        Opened {
+            answer,
+            bad,
+            count,
+            offset,
+        }
+    }
+
+    fn take_record(file: &[u8], number: usize) -> Record {
+        chip::take_record(file, number).into()
     }
 }
 

@@ -1,5 +1,6 @@
 //! Random states, sound lists and bytes, the same on every run.
 
+use plus::take::{kind, Record};
 use plus::{Access, Channel, Chip, Counters, Sprite, State};
 
 /// A plain random source (xorshift), the same on every run.
@@ -175,21 +176,31 @@ pub fn mixed_word(random: &mut Random) -> u16 {
 
 /// A text of a listing with one byte changed, put in or taken out.
 pub fn changed(random: &mut Random, text: &[u8]) -> Vec<u8> {
-    let mut text = text.to_vec();
-    let at = random.below(text.len() as u64) as usize;
+    changed_by(random, text, listing_byte)
+}
+
+/// A take with one byte changed, put in or taken out.
+pub fn changed_take(random: &mut Random, file: &[u8]) -> Vec<u8> {
+    changed_by(random, file, take_byte)
+}
+
+/// Bytes with one changed, put in or taken out, where the new one is of a sort.
+fn changed_by(random: &mut Random, bytes: &[u8], new: fn(&mut Random) -> u8) -> Vec<u8> {
+    let mut bytes = bytes.to_vec();
+    let at = random.below(bytes.len() as u64) as usize;
     match random.below(3) {
         0 => {
-            let old = text[at];
-            while text[at] == old {
-                text[at] = listing_byte(random);
+            let old = bytes[at];
+            while bytes[at] == old {
+                bytes[at] = new(random);
             }
         }
-        1 => text.insert(at + random.below(2) as usize, listing_byte(random)),
+        1 => bytes.insert(at + random.below(2) as usize, new(random)),
         _ => {
-            text.remove(at);
+            bytes.remove(at);
         }
     }
-    text
+    bytes
 }
 
 /// Any byte, mostly one of a listing's own.
@@ -201,5 +212,71 @@ fn listing_byte(random: &mut Random) -> u8 {
         3 => random.pick(b"+\r-:@Gaf\0\xB2"),
         4 => random.pick(b"LOADPUSERTINW"),
         _ => random.pick(b"0123456789ABCDEF"),
+    }
+}
+
+/// Records of a take, all of them good.
+pub fn any_records(random: &mut Random, count: u64) -> Vec<Record> {
+    let mut line = random.either(4, 1 << 32, 3) as u32;
+    let mut records = Vec::new();
+    for _ in 0..count {
+        let step = random.pick(&[0, 0, 0, 1, 5, 312, 100_000]);
+        line = line.saturating_add(step);
+        records.push(any_record(random, line));
+    }
+    records
+}
+
+/// A good record of a line.
+fn any_record(random: &mut Random, line: u32) -> Record {
+    let kind = random.pick(&[
+        kind::WRITE_BC,
+        kind::WRITE_BD,
+        kind::WRITE_7F,
+        kind::PAGE_WRITE,
+        kind::PAGE_WRITE,
+        kind::ACKNOWLEDGE,
+        kind::UNDO,
+    ]);
+    let has_address = kind == kind::PAGE_WRITE;
+    let has_value = kind <= kind::PAGE_WRITE;
+    Record {
+        line,
+        kind,
+        address: if has_address { random.word() } else { 0 },
+        value: if has_value { random.byte() } else { 0 },
+    }
+}
+
+/// Records of which one has a part changed, which makes it bad more often than
+/// not.
+pub fn spoilt(random: &mut Random, mut records: Vec<Record>) -> Vec<Record> {
+    let at = random.below(records.len() as u64) as usize;
+    let record = &mut records[at];
+    match random.below(4) {
+        0 => record.line = random.either(2, 1 << 32, 4) as u32,
+        1 => record.kind = random.either(2, 256, 9) as u8,
+        2 => record.address ^= 1 << random.below(16),
+        _ => record.value ^= 1 << random.below(8),
+    }
+    records
+}
+
+/// A comment, which may look like the end of a take.
+pub fn any_comment(random: &mut Random) -> Vec<u8> {
+    let mut comment = vec![0; random.either(20, 300, 20) as usize];
+    random.fill(&mut comment);
+    if random.chance(4) {
+        comment.extend(b"\0\0\0\0\0\0\0\0PLTK");
+    }
+    comment
+}
+
+/// Any byte, mostly one that means something in a take.
+pub fn take_byte(random: &mut Random) -> u8 {
+    match random.below(4) {
+        0 => random.byte(),
+        1 => random.pick(b"PLTK"),
+        _ => random.below(9) as u8,
     }
 }

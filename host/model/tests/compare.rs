@@ -1,7 +1,7 @@
 //! The core against the model over a million random calls, and that the
 //! comparison can fail.
 
-use model::compare::{compare, listing, Call};
+use model::compare::{compare, listing, take, Call};
 use model::machine::{Fault, Faulty};
 use model::{fault, Model};
 
@@ -145,4 +145,83 @@ listing_caught! {
     LowerWritten, Pause0AsWord, StrayPassedOver, StopBeforeInt, RoomForLongest, PartPrinted,
     BeyondCleared, LeadingZero, NamedAsWord, LowerRead, CarriageReturns, BlankAfter, LfLeftOut,
     RoomBeforeForm, BadLineFrom0, PartRead
+}
+
+#[test]
+fn takes_are_the_models() {
+    let tally = match take::changed_takes::<Model>(100_000, 1) {
+        Ok(tally) => tally,
+        Err(difference) => panic!("{difference}"),
+    };
+    println!("{tally:?}");
+    for number in [0, 13, 14] {
+        assert!(tally.written[number] >= 10_000, "{tally:?}");
+    }
+    for number in [0, 11, 12, 13] {
+        assert!(tally.opened[number] >= 5_000, "{tally:?}");
+    }
+}
+
+#[test]
+fn short_files_are_the_models() {
+    let tally = match take::short_files::<Model>(5_000, 1) {
+        Ok(tally) => tally,
+        Err(difference) => panic!("{difference}"),
+    };
+    println!("{tally:?}");
+    for number in [0, 11, 12, 13] {
+        assert!(tally.opened[number] >= 5_000, "{tally:?}");
+    }
+}
+
+/// All sets of a file's faults, and of the writer's.
+#[test]
+fn refusals_are_the_models() {
+    let tally = match take::refusals::<Model>() {
+        Ok(tally) => tally,
+        Err(difference) => panic!("{difference}"),
+    };
+    let opened = [0, 11, 12, 13].map(|number| tally.opened[number]);
+    assert_eq!(opened, [1, 4, 2, 1]);
+    // Four rooms each; half of the takes have a bad record.
+    let written = [0, 13, 14].map(|number| tally.written[number]);
+    assert_eq!(written, [8, 16, 8]);
+}
+
+/// A test for each fault of takes: it is seen in takes with one byte changed or in
+/// files of few bytes.
+macro_rules! take_caught {
+    ($($fault:ident),+) => {$(
+        #[test]
+        #[allow(non_snake_case)]
+        fn $fault() {
+            let changed = take::changed_takes::<Faulty<fault::$fault>>(100_000, 1);
+            let short = take::short_files::<Faulty<fault::$fault>>(5_000, 1);
+            assert!(changed.is_err() || short.is_err());
+        }
+    )+};
+}
+
+take_caught! {
+    AddressHighFirst, BadRecordFrom0, BeyondTakeCleared, CommentThoughRefused,
+    CountAndOffsetSwapped, CountThoughBad, FallingLineAccepted, FullRoomRefused, GapAllowed,
+    Kind0Accepted, Kind7Accepted, KindByValue, LineBy16Bits, MetBeforeLetters,
+    NoRecordsThoughMet, PortWithAddress, RecordFrom0, RecordsBeforeMet, RoomBeforeRecords,
+    SameLineBad, ThreeLetters, TrailerOf11, UndoWithValue
+}
+
+/// A test for each order of refusals: it is seen where all sets of faults are.
+macro_rules! order_caught {
+    ($($module:ident: $fault:ident),+) => {$(
+        #[test]
+        fn $module() {
+            assert!(take::refusals::<Faulty<fault::$fault>>().is_err());
+        }
+    )+};
+}
+
+order_caught! {
+    twelve_before_eleven: MetBeforeLetters,
+    thirteen_before_twelve: RecordsBeforeMet,
+    fourteen_before_thirteen: RoomBeforeRecords
 }

@@ -35,3 +35,18 @@ pub const CONVERTER_THERE: u8 = 9;
 
 /// No page write is left to take back: undo.
 pub const NOTHING_TO_UNDO: u8 = 10;
+
+/// The file is shorter than a trailer, or ends with other letters: opening a
+/// take.
+pub const NO_TRAILER: u8 = 11;
+
+/// The records don't end where the trailer begins, by its offset and count:
+/// opening a take.
+pub const NOT_MET: u8 = 12;
+
+/// A record is bad: writing and opening a take.
+pub const BAD_RECORD: u8 = 13;
+
+/// The buffer has no room for the take, or its count or its offset has none in 4
+/// bytes: writing a take.
+pub const NO_ROOM: u8 = 14;

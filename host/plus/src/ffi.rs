@@ -2,6 +2,7 @@
 
 use crate::listing::{Printed, ReadBack};
 use crate::state::Aligned;
+use crate::take::{Opened, Record, Written};
 use crate::{Access, Length, State, PLACES};
 
 #[repr(C)]
@@ -90,6 +91,18 @@ extern "C" {
         words: *mut u16,
         words_length: usize,
     ) -> ReadBack;
+    pub(crate) fn plus_take_pack(entry: Record) -> u64;
+    pub(crate) fn plus_take_unpack(number: u64) -> Record;
+    pub(crate) fn plus_take_write(
+        comment: *const u8,
+        comment_length: usize,
+        records: *const u64,
+        records_length: usize,
+        output: *mut u8,
+        output_length: usize,
+    ) -> Written;
+    pub(crate) fn plus_take_open(file: *const u8, file_length: usize) -> Opened;
+    pub(crate) fn plus_take_record(file: *const u8, file_length: usize, number: usize) -> Record;
     pub(crate) fn plus_draw(
         chip: Aligned,
         ram: *const u8,

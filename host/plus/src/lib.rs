@@ -8,9 +8,11 @@
 //! [`EXPORT`] bytes for an export. Every call answers one of the numbers in
 //! [`answer`]. With any other than [`answer::DONE`] the call was refused: chip
 //! and buffers are as they were, and all else in the answer is 0, but for the
-//! number of a bad line.
+//! number of a bad line or a bad record.
 //!
-//! [`listing`] prints a sound list as text and reads such a text back.
+//! [`listing`] prints a sound list as text and reads such a text back. [`take`]
+//! writes and opens takes, and has a [`Recorder`](take::Recorder) that makes one of
+//! the calls on a chip.
 //!
 //! A sound list forecast, then played on channel 0 up to its STOP:
 //!
@@ -80,6 +82,7 @@ pub mod kind;
 pub mod listing;
 mod palette;
 mod state;
+pub mod take;
 
 pub use access::Access;
 pub use chip::{Chip, Report};

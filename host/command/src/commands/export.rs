@@ -10,6 +10,7 @@ use std::path::Path;
 pub const COMMAND: Command = Command {
     name: "export",
     arguments: &["FILE", "OUT"],
+    option: None,
     about: "what the registers hold at the end of a scene",
     details: "\
 FILE is a scene, as `plus run` takes it. Plays all of its records, and writes

@@ -16,6 +16,7 @@ pub const START: u16 = 0x8000;
 pub const COMMAND: Command = Command {
     name: "forecast",
     arguments: &["FILE"],
+    option: None,
     about: "how long the sound list of a RAM image plays",
     details: "\
 FILE is an image of RAM, 65,536 bytes, with a sound list at 8000h. Prints

@@ -13,6 +13,7 @@ use std::path::Path;
 pub const COMMAND: Command = Command {
     name: "frame",
     arguments: &["FILE", "OUT.png"],
+    option: None,
     about: "a picture of the frame that a scene leads to",
     details: "\
 FILE is a scene, as `plus run` takes it. Plays all of its records, steps on to

@@ -14,6 +14,7 @@ use std::path::{self, Path, PathBuf};
 pub const COMMAND: Command = Command {
     name: "install",
     arguments: &["PREFIX"],
+    option: None,
     about: "header, library, pkg-config file and this program",
     details: "\
 Puts below the folder PREFIX, which it makes if need be:

@@ -13,6 +13,7 @@ use std::path::Path;
 pub const COMMAND: Command = Command {
     name: "list",
     arguments: &["FILE", "[START]"],
+    option: None,
     about: "a sound list as text, a line a word",
     details: "\
 FILE is an image of RAM, 65,536 bytes, with a sound list at START, which has

@@ -12,6 +12,7 @@ use std::path::Path;
 pub const COMMAND: Command = Command {
     name: "read",
     arguments: &["TEXT", "OUT"],
+    option: None,
     about: "the words of such a text, put into a file",
     details: "\
 TEXT is a sound list as `plus list` prints it. Writes its words to OUT, two
@@ -38,7 +39,7 @@ fn run(arguments: &[OsString], output: &mut Output) -> Done {
 fn refused(BadLine(line): BadLine, text: &Path) -> Failure {
     Failure::Refused {
         number: answer::NOT_LISTING,
-        line: Some(line),
+        place: Some(("line", line)),
         meaning: format!("that line of {} is no word's", text.display()),
     }
 }

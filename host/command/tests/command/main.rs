@@ -8,5 +8,6 @@ mod install;
 mod list;
 mod read;
 mod run;
+mod take;
 mod tools;
 mod usage;

@@ -4,6 +4,7 @@ use crate::tools::{command, exported, hexadecimal, plus, repository, Folder, Ran
 use plus::{RAM, STORE, UNLOCK};
 use std::fs::{self, File};
 use std::io;
+use std::path::Path;
 
 /// A stored input, and the stored output: what the proved runner prints on it.
 fn stored(name: &str) -> (Vec<u8>, String) {
@@ -150,4 +151,173 @@ fn an_output_that_cant_be_written_is_named() {
         .output();
     let said = "standard output: No space left on device (os error 28)\n";
     Ran::from(output.unwrap()).fails(1, said);
+}
+
+/// A scene with a call of each kind, served and refused, some of which leave all as
+/// it was, and its take worked out by hand: line, kind, address, value.
+fn recorded() -> (Scene, Vec<[u16; 4]>) {
+    let mut scene = Scene::new();
+    scene.ram[..2].copy_from_slice(&0x4030_u16.to_le_bytes());
+    let scene = scene
+        .record('D', 0, 1)
+        .each('B', &UNLOCK)
+        .record('G', 0x1234, 0xB8)
+        .record('G', 0, 0x40)
+        .each('L', &[0, 0])
+        .each('B', &[9, 9])
+        .record('D', 0x1234, 7)
+        .record('W', 0x6C0F, 1)
+        .record('W', 0x7000, 1)
+        .record('A', 0x1234, 9)
+        .record('R', 0x6800, 0)
+        .record('P', 0, 0)
+        .record('L', 0, 0)
+        .record('A', 0x1234, 9)
+        .record('F', 0, 0)
+        .record('E', 0, 0)
+        .record('x', 0, 0)
+        .record('W', 0x4000, 0xFF)
+        .record('U', 0x1234, 9)
+        .record('U', 0, 0)
+        .record('L', 0, 0);
+    let unlocking = UNLOCK.map(|byte| [0, 1, 0, byte.into()]);
+    let rest = [
+        [0, 3, 0, 0xB8],
+        [2, 1, 0, 9],
+        [2, 1, 0, 9],
+        [2, 2, 0, 7],
+        [2, 4, 0x6C0F, 1],
+        [3, 5, 0, 0],
+        [3, 4, 0x4000, 0xFF],
+        [3, 6, 0, 0],
+    ];
+    (scene, [&unlocking[..], &rest].concat())
+}
+
+#[test]
+fn a_take_of_every_served_call() {
+    let (scene, records) = recorded();
+    let folder = Folder::new();
+    let file = folder.file("recorded.scene", &scene.bytes());
+    let printed = plus(["run", &file]).out;
+    let lines =
+        |[line, kind, address, value]: &[u16; 4]| format!("{line} {kind} {address} {value}\n");
+    let expected: String = records.iter().map(lines).collect();
+    let out = folder.place("recorded.take");
+    for words in [
+        ["run", &file, "--take", &out],
+        ["run", "--take", &out, &file],
+    ] {
+        plus(words).prints(&printed);
+        plus(["records", &out]).prints(&format!("comment 0\n{expected}"));
+        fs::write(&out, vec![0; 100_000]).unwrap();
+    }
+}
+
+#[test]
+fn an_empty_scene_has_an_empty_take() {
+    let folder = Folder::new();
+    let file = folder.file("empty.scene", &Scene::new().bytes());
+    let out = folder.place("empty.take");
+    plus(["run", &file, "--take", &out]).prints("");
+    assert_eq!(fs::read(&out).unwrap(), b"\0\0\0\0\0\0\0\0PLTK");
+}
+
+#[test]
+fn a_scene_that_resets_or_changes_ram_has_no_take() {
+    let folder = Folder::new();
+    let (new, old) = (folder.place("new"), folder.file("old", b"a take"));
+    for (scene, why) in [
+        (
+            Scene::new()
+                .each('L', &[0, 0])
+                .record('Z', 0, 0)
+                .record('M', 0, 1),
+            "record number 3 resets",
+        ),
+        (
+            Scene::new()
+                .record('B', 0, 1)
+                .record('M', 0x8000, 0x20)
+                .record('Z', 0, 0),
+            "record number 2 changes RAM",
+        ),
+    ] {
+        let file = folder.file("none.scene", &scene.bytes());
+        let said = format!("{file}: no take: {why}\n");
+        for out in [&new, &old] {
+            plus(["run", &file, "--take", out]).fails(1, &said);
+        }
+        assert_eq!(plus(["run", &file]).status, Some(0));
+    }
+    assert!(!Path::new(&new).exists());
+    assert_eq!(fs::read(&old).unwrap(), b"a take");
+}
+
+#[test]
+fn a_scene_that_ends_early_saves_no_take() {
+    let folder = Folder::new();
+    let mut bytes = Scene::new().each('L', &[0, 0]).bytes();
+    for cut in [1, 4 + 4 + 1] {
+        bytes.truncate(bytes.len() - cut);
+        let file = folder.file("cut.scene", &bytes);
+        let old = folder.file("old", b"a take");
+        let (ran, alone) = (plus(["run", &file, "--take", &old]), plus(["run", &file]));
+        assert_eq!(
+            (ran.status, ran.out, ran.err),
+            (Some(1), alone.out, alone.err)
+        );
+        assert_eq!(fs::read(&old).unwrap(), b"a take");
+    }
+}
+
+/// The take is there though nobody reads what is printed.
+#[test]
+fn a_take_is_saved_before_anything_is_printed() {
+    let folder = Folder::new();
+    let file = folder.file("recorded.scene", &recorded().0.bytes());
+    let out = folder.place("recorded.take");
+    let (reader, writer) = io::pipe().unwrap();
+    drop(reader);
+    let words = ["run", &file, "--take", &out];
+    let ran = command(words).stdout(writer).output().unwrap();
+    assert_eq!(ran.status.code(), Some(0));
+    assert_eq!(plus(["records", &out]).out.lines().count(), 1 + 17 + 8);
+    // Where it can't be written, nothing is printed.
+    let nowhere = folder.place("missing/out");
+    let said = format!("{nowhere}: No such file or directory (os error 2)\n");
+    plus(["run", &file, "--take", &nowhere]).fails(1, &said);
+}
+
+#[test]
+fn wrong_use_of_the_option() {
+    let folder = Folder::new();
+    let file = folder.file("recorded.scene", &recorded().0.bytes());
+    let old = folder.file("old", b"a take");
+    let usage = "usage: plus run FILE [--take OUT]\n`plus help run` says more";
+    for (words, wrong) in [
+        (&["run", &file, "--take"][..], "OUT is missing"),
+        (&["run", "--take", &old], "FILE is missing"),
+        (&["run", &file, &old], "OLD is one argument too many"),
+        (
+            &["run", &file, "--take", &old, "x"],
+            "'x' is one argument too many",
+        ),
+        (&["run", &file, "--take", "-x"], "there is no option '-x'"),
+        (
+            &["run", &file, "--take", &old, "--take", "x"],
+            "--take is given twice",
+        ),
+        (
+            &["run", &file, "--take", &old, "--fast"],
+            "there is no option '--fast'",
+        ),
+    ] {
+        let wrong = wrong.replace("OLD", &format!("'{old}'"));
+        plus(words).fails(2, &format!("plus: run: {wrong}\n{usage}\n"));
+    }
+    let said = "plus: frame: there is no option '--take'\n";
+    let ran = plus(["frame", &file, &old, "--take", "x"]);
+    assert!(ran.err.starts_with(said), "{}", ran.err);
+    assert_eq!(fs::read(&old).unwrap(), b"a take");
 }

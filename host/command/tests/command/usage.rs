@@ -4,12 +4,14 @@ use crate::tools::plus;
 use std::ffi::OsStr;
 use std::os::unix::ffi::OsStrExt;
 
-/// Each command with its arguments.
-const COMMANDS: [(&str, &[&str]); 7] = [
+/// Each command with its arguments, and its option last if it has one.
+const COMMANDS: [(&str, &[&str]); 9] = [
     ("forecast", &["FILE"]),
     ("list", &["FILE", "[START]"]),
     ("read", &["TEXT", "OUT"]),
-    ("run", &["FILE"]),
+    ("run", &["FILE", "[--take OUT]"]),
+    ("take", &["RECORDS", "OUT", "[COMMENT]"]),
+    ("records", &["TAKE"]),
     ("frame", &["FILE", "OUT.png"]),
     ("export", &["FILE", "OUT"]),
     ("install", &["PREFIX"]),
@@ -18,14 +20,16 @@ const COMMANDS: [(&str, &[&str]); 7] = [
 const OVERVIEW: &str = "\
 usage: plus COMMAND ...
 
-  forecast FILE        how long the sound list of a RAM image plays
-  list FILE [START]    a sound list as text, a line a word
-  read TEXT OUT        the words of such a text, put into a file
-  run FILE             what each record of a scene answers
-  frame FILE OUT.png   a picture of the frame that a scene leads to
-  export FILE OUT      what the registers hold at the end of a scene
-  install PREFIX       header, library, pkg-config file and this program
-  help [COMMAND]       this, or all about one command
+  forecast FILE                how long the sound list of a RAM image plays
+  list FILE [START]            a sound list as text, a line a word
+  read TEXT OUT                the words of such a text, put into a file
+  run FILE [--take OUT]        what each record of a scene answers
+  take RECORDS OUT [COMMENT]   a take: calls with their lines, put into a file
+  records TAKE                 the records of such a file
+  frame FILE OUT.png           a picture of the frame that a scene leads to
+  export FILE OUT              what the registers hold at the end of a scene
+  install PREFIX               header, library, pkg-config file and this program
+  help [COMMAND]               this, or all about one command
 ";
 
 fn usage(command: &str, arguments: &[&str]) -> String {
@@ -89,7 +93,8 @@ fn missing_and_extra_arguments() {
                 fails(&["x"; 2][..given], &format!("{argument} is missing"));
             }
         }
-        let mut words = vec!["x"; arguments.len()];
+        let option = |argument: &&&str| argument.starts_with("[--");
+        let mut words = vec!["x"; arguments.len() - arguments.iter().filter(option).count()];
         words.push("more");
         fails(&words, "'more' is one argument too many");
         fails(&["--fast"], "there is no option '--fast'");

@@ -5,9 +5,10 @@
 //! run.
 
 use model::chip::{self, Model};
-use model::random::{mixed_word, Random};
+use model::random::{any_records, mixed_word, Random};
 use model::under_test::UnderTest;
 use plus::listing::{self, LONGEST_LINE};
+use plus::take;
 use plus::{Chip, EXPORT, LINE, PLACES, RAM, STORE};
 use std::env;
 use std::hint::black_box;
@@ -27,6 +28,8 @@ enum Work {
     Forecast,
     Print,
     Read,
+    TakeWrite,
+    TakeOpen,
 }
 
 /// A row of the table: how many calls one timed run makes, how many sprites are
@@ -52,7 +55,7 @@ const fn case(name: &'static str, work: Work, count: usize, sprites: u16, mode: 
     }
 }
 
-const CASES: [Case; 16] = [
+const CASES: [Case; 18] = [
     case("line step", Work::Step, 100_000, 0, 1),
     case("page write", Work::PageWrite, 100_000, 0, 1),
     case("page read", Work::PageRead, 100_000, 0, 1),
@@ -72,11 +75,13 @@ const CASES: [Case; 16] = [
     case("forecast, 32,767 words", Work::Forecast, 20, 0, 1),
     case("print, 30,000 words", Work::Print, 20, 0, 1),
     case("read, 30,000 words", Work::Read, 20, 0, 1),
+    case("write, 100,000 records", Work::TakeWrite, 20, 0, 1),
+    case("open, 100,000 records", Work::TakeOpen, 20, 0, 1),
 ];
 
 /// What both are given: RAM with a screen and a list that never ends before its
-/// last word, a store of opaque pixels, words of all kinds and their text, and
-/// room for both.
+/// last word, a store of opaque pixels, words of all kinds and their text, records
+/// of all kinds and their take, and room for these.
 struct Lent {
     ram: Vec<u8>,
     store: Vec<u8>,
@@ -86,6 +91,9 @@ struct Lent {
     text: Vec<u8>,
     text_room: Vec<u8>,
     words_room: Vec<u16>,
+    records: Vec<u64>,
+    take: Vec<u8>,
+    take_room: Vec<u8>,
 }
 
 fn lent() -> Lent {
@@ -100,6 +108,8 @@ fn lent() -> Lent {
         .collect();
     let mut random = Random(53);
     let words: Vec<u16> = (0..30_000).map(|_| mixed_word(&mut random)).collect();
+    let records = any_records(&mut random, 100_000);
+    let take = take::file_of(b"a comment", &records).expect("records are good");
     Lent {
         ram,
         store,
@@ -109,6 +119,9 @@ fn lent() -> Lent {
         text_room: vec![0; LONGEST_LINE * words.len()],
         words_room: vec![0; words.len()],
         words,
+        records: records.into_iter().map(take::pack).collect(),
+        take_room: vec![0; take.len()],
+        take,
     }
 }
 
@@ -134,7 +147,10 @@ fn set_up<M: UnderTest>(case: &Case) -> M {
 /// The calls of each case and the time they take, written once for both: they
 /// have calls of the same names, and are called here with nothing between.
 macro_rules! calls_of {
-    ($run:ident, $machine:ident, $forecast:path, $print:path, $read:path, $off:path) => {
+    (
+        $run:ident, $machine:ident, $forecast:path, $print:path, $read:path, $write:path,
+        $open:path, $off:path
+    ) => {
         fn $run(case: &Case, count: usize) -> Duration {
             let (mut machine, mut lent) = (set_up::<$machine>(case), lent());
             if case.transparent {
@@ -180,6 +196,12 @@ macro_rules! calls_of {
                 Work::Read => repeat(count, |_| {
                     black_box($read(&lent.text, &mut lent.words_room));
                 }),
+                Work::TakeWrite => repeat(count, |_| {
+                    black_box($write(b"a comment", &lent.records, &mut lent.take_room));
+                }),
+                Work::TakeOpen => repeat(count, |_| {
+                    black_box($open(&lent.take));
+                }),
             }
             black_box((
                 &machine,
@@ -187,6 +209,7 @@ macro_rules! calls_of {
                 &lent.export,
                 &lent.text_room,
                 &lent.words_room,
+                &lent.take_room,
             ));
             start.elapsed()
         }
@@ -199,6 +222,8 @@ calls_of!(
     plus::forecast,
     listing::print,
     listing::read,
+    take::write,
+    take::open,
     plus::Access::Off
 );
 calls_of!(
@@ -207,6 +232,8 @@ calls_of!(
     chip::forecast,
     chip::print,
     chip::read,
+    chip::take_write,
+    chip::take_open,
     chip::Access::Off
 );
 

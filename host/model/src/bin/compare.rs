@@ -1,12 +1,12 @@
 //! Compares the core with the model: `compare [CALLS [SEED]]`, by default one
-//! million calls from seed 1. Every word is printed and read too, and a text for
-//! every five calls.
+//! million calls from seed 1. Every word is printed and read too, a text for every
+//! five calls, and a take for every ten.
 
 use std::env;
 use std::process::ExitCode;
 use std::time::Instant;
 
-use model::compare::{compare, listing};
+use model::compare::{compare, listing, take};
 use model::Model;
 
 fn main() -> ExitCode {
@@ -41,5 +41,13 @@ fn compared(count: u64, seed: u64) -> Result<(), String> {
     listing::each_word::<Model>()?;
     let answers = listing::changed_texts::<Model>(count / 5, seed)?;
     println!("{} texts, {} of them refused 7", count / 5, answers[7]);
+    take::refusals::<Model>()?;
+    let short = take::short_files::<Model>(count / 200, seed)?;
+    let takes = take::changed_takes::<Model>(count / 10, seed)?;
+    println!("{} takes, and each with a byte changed", count / 10);
+    for (number, name) in [(11, "no trailer"), (12, "not met"), (13, "bad record")] {
+        let times = short.opened[number] + takes.opened[number];
+        println!("{name}: {times} of their files and of short ones");
+    }
     Ok(())
 }

@@ -1,22 +1,29 @@
 //! The model's state as the core's, and back: structs of the same names and
-//! fields. The model's record is a list and no part of it.
+//! fields, and a take's record like them. The model's record of page writes is a
+//! list and no part of the state.
 
 use crate::chip::{self, Model};
 use plus::{Editing, State};
 
+/// The core's structs in one place.
+mod proved {
+    pub use plus::take::Record;
+    pub use plus::*;
+}
+
 /// Both ways between the two structs of a name.
 macro_rules! same {
     ($($name:ident { $($field:ident),* })*) => {$(
-        impl From<chip::$name> for plus::$name {
-            fn from(model: chip::$name) -> plus::$name {
+        impl From<chip::$name> for proved::$name {
+            fn from(model: chip::$name) -> proved::$name {
                 let chip::$name { $($field),* } = model;
-                plus::$name { $($field: $field.into()),* }
+                proved::$name { $($field: $field.into()),* }
             }
         }
 
-        impl From<plus::$name> for chip::$name {
-            fn from(core: plus::$name) -> chip::$name {
-                let plus::$name { $($field),* } = core;
+        impl From<proved::$name> for chip::$name {
+            fn from(core: proved::$name) -> chip::$name {
+                let proved::$name { $($field),* } = core;
                 chip::$name { $($field: $field.into()),* }
             }
         }
@@ -33,6 +40,7 @@ same! {
     Sprite { x, y, magnification }
     Channel { enabled, interrupt, address, prescale, pause, count, counter, mark }
     Interrupts { raster, last_raster, ivr }
+    Record { line, kind, address, value }
 }
 
 impl From<plus::Access> for chip::Access {

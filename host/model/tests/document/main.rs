@@ -23,4 +23,5 @@ mod screen;
 mod sound;
 mod split;
 mod sprites;
+mod take;
 mod undo;

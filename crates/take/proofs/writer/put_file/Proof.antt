@@ -1,0 +1,48 @@
+-- `take::writer::put_file`: three parts after one another.
+use borrow.Author.Needs.{needs}
+use native.Mathlib.Omega.{arith}
+use mathlib.Core.List.{map}
+use lib.ListN.{length-map}
+use Rattle.take.specs.Record.{unpacked}
+use Rattle.take.proofs.Storing.{length-records, file-put}
+use Rattle.take.proofs.writer.put_file.Statement.{statement}
+use Rattle.take.proofs.writer.put_file.Tie as tie
+
+put-comment-requires : tie.Need-put-comment-requires
+put-comment-requires c κs = search needs
+
+put-records-requires : tie.Need-put-records-requires
+put-records-requires c κs = search needs
+
+put-trailer-requires : tie.Need-put-trailer-requires
+put-trailer-requires c κs =
+    let q = c .before .before .before in
+    let p = q .before .before .before .before in
+    let s = p .before .before .before .before .before in
+    let n = s .args .records .now in
+    omega (
+      arith,
+      s .pre,
+      p .put-comment .ensures .place,
+      p .put-comment .kept .1 .0,
+      q .put-records .ensures .place,
+      q .put-records .kept .1 .0,
+      length-records (map unpacked n),
+      length-map n unpacked,
+    )
+
+same-length : tie.Need-same-length
+same-length c = search needs
+
+returns : tie.Need-returns
+returns c =
+    let r = c .before .before in
+    let q = r .before .before .before .before in
+    let p = q .before .before .before .before in
+    let s = p .before .before .before .before .before .args in
+    file-put (s .comment .now) (s .records .now) (p .put-comment .ensures) (q .put-records .ensures) (r .put-trailer .ensures)
+
+pub put-file-spec : {M : Type 1} → statement M
+put-file-spec =
+    tie.close
+    (tie.spec put-comment-requires put-records-requires put-trailer-requires same-length returns)

@@ -1,0 +1,34 @@
+-- What the parts of the writer and the reader give.
+use mathlib.Core.Path.{_≡_}
+use mathlib.Core.Bool.{Bool}
+use mathlib.Core.List.{List}
+use Prim.Native.Nat.{ℕ, _+_, _*_, _^_}
+use lib.Dec.{eqb, leb, ltb}
+use lib.ListN.{length}
+use lib.Seq.{sets}
+use Rattle.words.specs.Choice.{if, both}
+use Rattle.words.specs.Answers.{done, noTrailer, notMet, badRecord, noRoom, served}
+use Rattle.take.specs.Open.{hasTrailer, meets, countOf, offsetOf}
+
+-- bytes stored from a place on, and the place after them
+pub record Puts (before : List ℕ) (at : ℕ) (bytes after : List ℕ) (next : ℕ) : Type 0 where
+  pub stored : after ≡ sets before at bytes
+  pub place : next ≡ at + length bytes
+
+-- a file with so many records from an offset on has the room, and its count and offset fit their 4 bytes
+unfoldable pub fitting : ℕ → ℕ → ℕ → Bool
+fitting offset count room = both (leb (offset + 8 * count + 12) room) (both (ltb count (2 ^ 32)) (ltb offset (2 ^ 32)))
+
+-- the writer's answer, by the number of the first bad record and these measures
+unfoldable pub measuredAnswer : ℕ → ℕ → ℕ → ℕ → ℕ
+measuredAnswer bad offset count room = if (eqb bad 0) (if (fitting offset count room) done noRoom) badRecord
+
+-- the answer by the trailer alone
+unfoldable pub trailerAnswer : List ℕ → ℕ
+trailerAnswer file = if (hasTrailer file) (if (meets file) done notMet) noTrailer
+
+-- with the count and the offset of a trailer that is met, else 0
+pub record Ending (file : List ℕ) (answer count offset : ℕ) : Type 0 where
+  pub answered : answer ≡ trailerAnswer file
+  pub counted : count ≡ served (trailerAnswer file) (countOf file) 0
+  pub placed : offset ≡ served (trailerAnswer file) (offsetOf file) 0

@@ -1,0 +1,69 @@
+-- Request L7: a record of a take, its 8 bytes, and which records are bad.
+use mathlib.Core.Bool.{Bool, not}
+use mathlib.Core.List.{List, [], _∷_, _++_}
+use Prim.Native.Nat.{ℕ, suc, _/_, _%_, _^_, _<_}
+use lib.Dec.{eqb, leb}
+use Rattle.words.specs.Choice.{if, both, either}
+use Rattle.take.specs.Bytes.{bytesOf, numberOf}
+use Rattle.take.specs.declared.Record.{Record}
+
+-- the parts fit their bytes, as those of every value of the type do
+pub record Within (r : Record) : Type 0 where
+  pub line : r .line < 2 ^ 32
+  pub kind : r .kind < 2 ^ 8
+  pub address : r .address < 2 ^ 16
+  pub value : r .value < 2 ^ 8
+
+abbrev pub AllWithin : List Record → Type 0
+AllWithin [] = Unit {0}
+AllWithin (r ∷ rs) = Within r × AllWithin rs
+
+-- line number, kind, address, value
+abbrev pub recordBytes : Record → List ℕ
+recordBytes r = bytesOf 4 (r .line) ++ bytesOf 1 (r .kind) ++ bytesOf 2 (r .address) ++ bytesOf 1 (r .value)
+
+-- the same 8 bytes as one number of 64 bits, and the record in such a number
+unfoldable pub packed : Record → ℕ
+packed r = numberOf (recordBytes r)
+
+unfoldable pub unpacked : ℕ → Record
+unpacked n =
+    record {
+      line = n % 2 ^ 32;
+      kind = n / 2 ^ 32 % 2 ^ 8;
+      address = n / 2 ^ 40 % 2 ^ 16;
+      value = n / 2 ^ 56 % 2 ^ 8;
+    }
+
+-- the kinds are 1 to 6: BCxx, BDxx, 7Fxx and page write, acknowledge, undo
+abbrev pub knownKind : ℕ → Bool
+knownKind k = both (leb 1 k) (leb k 6)
+
+-- a page write alone has an address
+abbrev pub hasAddress : ℕ → Bool
+hasAddress k = eqb k 4
+
+-- acknowledge and undo have no value
+abbrev pub hasValue : ℕ → Bool
+hasValue k = not (either (eqb k 5) (eqb k 6))
+
+-- a part that a kind does not have is 0
+abbrev pub absent : Bool → ℕ → Bool
+absent has n = either has (eqb n 0)
+
+-- a record after one with this line number, or after 0 as the first: bad if its kind is none, a part that its kind does
+-- not have is not 0, or its line number falls
+unfoldable pub bad : ℕ → Record → Bool
+bad before r =
+    not (both (knownKind (r .kind))
+    (both (absent (hasAddress (r .kind)) (r .address))
+    (both (absent (hasValue (r .kind)) (r .value))
+    (leb before (r .line)))))
+
+-- the first bad record's number from 1, or 0 where none is bad; so many records came before, the last with this line number
+abbrev pub firstBadAfter : ℕ → ℕ → List Record → ℕ
+firstBadAfter count before [] = 0
+firstBadAfter count before (r ∷ rs) = if (bad before r) (suc count) (firstBadAfter (suc count) (r .line) rs)
+
+unfoldable pub firstBad : List Record → ℕ
+firstBad rs = firstBadAfter 0 0 rs

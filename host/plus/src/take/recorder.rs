@@ -1,0 +1,190 @@
+//! A chip that notes the calls made on it.
+
+use super::{kind, Record};
+use crate::{answer, Access, Chip, Report};
+use std::error::Error;
+use std::fmt;
+use std::ops::Deref;
+
+/// Which of the served calls a recorder notes.
+#[derive(Clone, Copy, Debug, PartialEq, Eq)]
+pub enum Noted {
+    /// Those that changed the chip, the pixel store or the record of page writes.
+    Changes,
+    /// All, also those that left everything as it was.
+    Served,
+}
+
+/// A chip that notes the calls made on it as the records of a take, and counts its
+/// line steps. Only writes to the ports and to the page, acknowledges and undos
+/// are ever noted, and refused ones never. Made on a chip after reset, each after
+/// as many line steps as its record says, and with the same RAM and store at the
+/// start, the calls noted lead to the same state.
+///
+/// It is read like the [`Chip`] in it, and has the chip's calls.
+///
+/// ```
+/// use plus::take::{kind, Noted, Recorder};
+/// use plus::{Access, RAM, STORE, UNLOCK};
+///
+/// let (ram, mut store) = (vec![0; RAM], vec![0; STORE]);
+/// let mut chip = Recorder::new(Noted::Changes);
+/// UNLOCK.map(|byte| chip.write_bc(byte));
+/// chip.write_7f(0xB8); // maps the register page in
+/// chip.step(&ram, [Access::Off; 3]);
+/// chip.step(&ram, [Access::Off; 3]);
+/// chip.write_7f(0xB8); // is mapped in already
+/// chip.page_write(&mut store, 0x6800, 100);
+/// chip.page_write(&mut store, 0x7000, 100); // refused: nothing is there
+/// assert_eq!(chip.video.pri, 100);
+///
+/// let records = chip.records()?;
+/// assert_eq!(records.len(), 17 + 1 + 1);
+/// let [.., mapped, written] = records else { unreachable!() };
+/// assert_eq!((mapped.line, mapped.kind, mapped.value), (0, kind::WRITE_7F, 0xB8));
+/// assert_eq!((written.line, written.kind), (2, kind::PAGE_WRITE));
+/// assert_eq!((written.address, written.value), (0x6800, 100));
+/// # Ok::<(), plus::take::TooLate>(())
+/// ```
+#[derive(Clone, Debug)]
+pub struct Recorder {
+    chip: Chip,
+    noted: Noted,
+    /// Line steps since reset, as long as a record can say them.
+    line: Option<u32>,
+    records: Result<Vec<Record>, TooLate>,
+}
+
+impl Recorder {
+    /// A chip after reset, with nothing noted.
+    pub fn new(noted: Noted) -> Recorder {
+        Recorder {
+            chip: Chip::new(),
+            noted,
+            line: Some(0),
+            records: Ok(Vec::new()),
+        }
+    }
+
+    /// The calls noted since reset. There are none to be had after one that came
+    /// too late.
+    pub fn records(&self) -> Result<&[Record], TooLate> {
+        match &self.records {
+            Ok(records) => Ok(records),
+            Err(late) => Err(*late),
+        }
+    }
+
+    /// Resets the chip, and starts anew: a take begins with a reset.
+    pub fn reset(&mut self) {
+        self.chip.reset();
+        self.line = Some(0);
+        self.records = Ok(Vec::new());
+    }
+
+    /// [`Chip::write_bc`], noted.
+    pub fn write_bc(&mut self, byte: u8) -> u8 {
+        self.note(kind::WRITE_BC, 0, byte, |chip| chip.write_bc(byte))
+    }
+
+    /// [`Chip::write_bd`], noted.
+    pub fn write_bd(&mut self, byte: u8) -> u8 {
+        self.note(kind::WRITE_BD, 0, byte, |chip| chip.write_bd(byte))
+    }
+
+    /// [`Chip::write_7f`], noted.
+    pub fn write_7f(&mut self, byte: u8) -> u8 {
+        self.note(kind::WRITE_7F, 0, byte, |chip| chip.write_7f(byte))
+    }
+
+    /// [`Chip::page_write`], noted.
+    pub fn page_write(&mut self, store: &mut [u8], address: u16, byte: u8) -> u8 {
+        self.note(kind::PAGE_WRITE, address, byte, |chip| {
+            chip.page_write(store, address, byte)
+        })
+    }
+
+    /// [`Chip::acknowledge`], noted.
+    pub fn acknowledge(&mut self) -> (u8, u8) {
+        let mut vector = 0;
+        let answer = self.note(kind::ACKNOWLEDGE, 0, 0, |chip| {
+            let (answer, served) = chip.acknowledge();
+            vector = served;
+            answer
+        });
+        (answer, vector)
+    }
+
+    /// [`Chip::undo`], noted.
+    pub fn undo(&mut self, store: &mut [u8]) -> u8 {
+        self.note(kind::UNDO, 0, 0, |chip| chip.undo(store))
+    }
+
+    /// [`Chip::step`], counted if it is served.
+    pub fn step(&mut self, ram: &[u8], accesses: [Access; 3]) -> (u8, Report) {
+        let (answer, report) = self.chip.step(ram, accesses);
+        if answer == answer::DONE {
+            self.line = self.line.and_then(|line| line.checked_add(1));
+        }
+        (answer, report)
+    }
+
+    /// [`Chip::page_read`], which changes nothing.
+    pub fn page_read(&mut self, store: &[u8], address: u16, bus: u8) -> (u8, u8) {
+        self.chip.page_read(store, address, bus)
+    }
+
+    /// Makes a call, and notes it if it is one to note.
+    fn note(
+        &mut self,
+        kind: u8,
+        address: u16,
+        value: u8,
+        call: impl FnOnce(&mut Chip) -> u8,
+    ) -> u8 {
+        let before = *self.chip;
+        let answer = call(&mut self.chip);
+        // A write that is kept and an undo move the place of the record, so that the
+        // store and the record never change without the state.
+        let changed = *self.chip != before;
+        if answer == answer::DONE && (changed || self.noted == Noted::Served) {
+            self.push(kind, address, value);
+        }
+        answer
+    }
+
+    fn push(&mut self, kind: u8, address: u16, value: u8) {
+        let Some(line) = self.line else {
+            self.records = Err(TooLate);
+            return;
+        };
+        if let Ok(records) = &mut self.records {
+            records.push(Record {
+                line,
+                kind,
+                address,
+                value,
+            });
+        }
+    }
+}
+
+impl Deref for Recorder {
+    type Target = Chip;
+
+    fn deref(&self) -> &Chip {
+        &self.chip
+    }
+}
+
+/// A call came after line 4,294,967,295, which is the last that a record can say.
+#[derive(Clone, Copy, Debug, PartialEq, Eq)]
+pub struct TooLate;
+
+impl fmt::Display for TooLate {
+    fn fmt(&self, f: &mut fmt::Formatter) -> fmt::Result {
+        write!(f, "a call came after line {}", u32::MAX)
+    }
+}
+
+impl Error for TooLate {}
