@@ -167,19 +167,19 @@ typedef struct {
 /* The answers. */
 
 typedef struct {
-    uint8_t answer;
     PlusChip chip;
+    uint8_t answer;
 } PlusAnswered;
 
 typedef struct {
-    uint8_t answer;
     PlusChip chip;
+    uint8_t answer;
     uint8_t vector;
 } PlusAcknowledged;
 
 typedef struct {
-    uint8_t answer;
     PlusChip chip;
+    uint8_t answer;
     uint8_t byte;
 } PlusByteRead;
 

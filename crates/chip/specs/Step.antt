@@ -1,6 +1,6 @@
 -- 01, "One line": the line step. Sound, raster compare, split compare, counters.
 use mathlib.Core.Path.{_≡_}
-use mathlib.Core.Bool.{Bool}
+use mathlib.Core.Bool.{false}
 use mathlib.Core.List.{List, [], _∷_}
 use Prim.Native.Nat.{ℕ, _≤_}
 use lib.Dec.{eqb}
@@ -8,11 +8,15 @@ use lib.ListN.{length}
 use Rattle.words.specs.Choice.{if, either}
 use Rattle.sound.specs.declared.Accesses.{Accesses}
 use Rattle.sound.specs.declared.Report.{Report}
+use Rattle.sound.specs.declared.Sound.{Sound}
 use Rattle.sound.specs.declared.Did.the-variants.{SatOut}
 use Rattle.sound.specs.Line.{entryOf, soundAfter, soundReport}
+use Rattle.crtc.specs.declared.Video.{Video}
 use Rattle.crtc.specs.Line.{lineOf}
+use Rattle.chip.specs.declared.Crtc.{Crtc}
 use Rattle.chip.specs.declared.Chip.{Chip}
 use Rattle.chip.specs.declared.Stepped.{Stepped}
+use Rattle.chip.specs.declared.line.Moved.{Moved}
 use Rattle.chip.specs.State.{withSound, withCounters, withRaster}
 use Rattle.words.specs.Answers.{done, wrongLength, served}
 
@@ -32,6 +36,14 @@ counted c =
 
 unfoldable pub stepped : List ℕ → Chip → Chip
 stepped ram c = counted (withSound c (soundAfter ram (c .sound)))
+
+-- the parts that a line moves, by themselves
+pub record Moves (s : Sound) (k : Crtc) (v : Video) (ram : List ℕ) (a : Accesses) (r : Moved) : Type 0 where
+  pub answer : r .answer ≡ stepAnswer ram
+  pub sound : r .sound ≡ served (stepAnswer ram) (soundAfter ram s) s
+  pub counters : r .counters ≡ served (stepAnswer ram) (lineOf (k .registers) v (k .counters) .counters) (k .counters)
+  pub raster : r .raster ≡ served (stepAnswer ram) (lineOf (k .registers) v (k .counters) .raster) false
+  pub report : r .report ≡ served (stepAnswer ram) (soundReport ram a s) idleReport
 
 -- what the line step promises, whatever the processor does; no line costs over 34 cycles
 pub record Steps (c : Chip) (ram : List ℕ) (a : Accesses) (r : Stepped) : Type 0 where

@@ -56,24 +56,24 @@ pub struct Chip {
     pub editing: Editing,
 }
 
-// The answer number of a call, and the chip after it.
+// The chip after a call, and its answer number. The chip stands first in every answer, where it is copied whole.
 #[repr(C)]
 pub struct Answered {
-    pub answer: u8,
     pub chip: Chip,
+    pub answer: u8,
 }
 
-// An acknowledge's answer: the number, the chip, the vector.
+// An acknowledge's answer: the chip, the number, the vector.
 #[repr(C)]
 pub struct Acknowledged {
-    pub answer: u8,
     pub chip: Chip,
+    pub answer: u8,
     pub vector: u8,
 }
 
-// A line step's answer: the number, the chip, the report of sound.
+// A line step's answer: the chip, the number, the report of sound.
 pub struct Stepped {
-    pub answer: u8,
     pub chip: Chip,
+    pub answer: u8,
     pub report: Report,
 }

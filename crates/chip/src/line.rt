@@ -1,14 +1,27 @@
 // The line step.
 use crate::Chip;
+use crate::Crtc;
 use crate::Stepped;
+use crtc::Counters;
+use crtc::Video;
 use sound::Accesses;
 use sound::Did;
 use sound::Entry;
 use sound::Report;
+use sound::Sound;
 use words::answer::DONE;
 use words::answer::WRONG_LENGTH;
 ghost use mathlib.Core.Path.{_≡_};
-ghost use Rattle.chip.specs.Step.{idleReport, Steps};
+ghost use Rattle.chip.specs.Step.{idleReport, Moves, Steps};
+
+// What a line moves: the sound state, the counters, and whether it raises the raster interrupt; with its answer number and report.
+pub struct Moved {
+    pub sound: Sound,
+    pub counters: Counters,
+    pub raster: bool,
+    pub answer: u8,
+    pub report: Report,
+}
 
 // The report of a line that wasn't played: no cycles, each channel sat out.
 fn idle_report() -> Report
@@ -18,31 +31,52 @@ fn idle_report() -> Report
     Report { cycles: 0, entries }
 }
 
-// One line: sound, raster compare, split compare, counters. The processor's accesses to the 8255 cost cycles and change nothing else.
-pub fn step(mut chip: Chip, ram: &[u8], accesses: Accesses) -> Stepped
-    ensures { λ r. ⌜ Steps chip (now (ram .entry)) accesses r ⌝ }
+// One line of the parts that it moves: sound, raster compare, split compare, counters. The processor's accesses to the 8255 cost
+// cycles and change nothing else.
+pub fn advance(sound: Sound, crtc: Crtc, video: Video, ram: &[u8], accesses: Accesses) -> Moved
+    ensures { λ r. ⌜ Moves sound crtc video (now (ram .entry)) accesses r ⌝ }
 {
+    let before = crtc.counters;
     if ram.len() != 65536 {
-        return Stepped {
+        return Moved {
+            sound,
+            counters: before,
+            raster: false,
             answer: WRONG_LENGTH,
-            chip,
             report: idle_report(),
         };
     }
-    let played = sound::sound_line(chip.sound, ram, accesses);
-    let sound = played.sound;
-    chip.sound = sound;
-    let mut crtc = chip.crtc;
-    let line = crtc.counters.line(crtc.registers, chip.video);
+    let line = before.line(crtc.registers, video);
     let counters = line.counters;
+    let played = sound::sound_line(sound, ram, accesses);
+    let next = played.sound;
+    let report = played.report;
+    Moved {
+        sound: next,
+        counters,
+        raster: line.raster,
+        answer: DONE,
+        report,
+    }
+}
+
+// One line of the chip.
+pub fn step(mut chip: Chip, ram: &[u8], accesses: Accesses) -> Stepped
+    ensures { λ r. ⌜ Steps chip (now (ram .entry)) accesses r ⌝ }
+{
+    let line = advance(chip.sound, chip.crtc, chip.video, ram, accesses);
+    let sound = line.sound;
+    chip.sound = sound;
+    let counters = line.counters;
+    let mut crtc = chip.crtc;
     crtc.counters = counters;
     chip.crtc = crtc;
     let raster = line.raster | chip.interrupts.raster;
     chip.interrupts.raster = raster;
-    let report = played.report;
+    let report = line.report;
     Stepped {
-        answer: DONE,
         chip,
+        answer: line.answer,
         report,
     }
 }

@@ -14,11 +14,11 @@ ghost use Rattle.page.specs.Page.{pageAnswer, readAnswer, Writes, Reads}
 ghost use Rattle.page.specs.Undo.{Undoes};
 ghost use Rattle.page.specs.Parts.{Keeps, Puts};
 
-// A page read's answer: the number, the chip, the byte.
+// A page read's answer: the chip, the number, the byte.
 #[repr(C)]
 pub struct ByteRead {
-    pub answer: u8,
     pub chip: Chip,
+    pub answer: u8,
     pub byte: u8,
 }
 
@@ -135,15 +135,15 @@ pub fn page_read(chip: Chip, store: &[u8], address: u16, bus: u8) -> ByteRead
     let answer = read_answer(chip, store.len(), address);
     if answer != DONE {
         return ByteRead {
-            answer,
             chip,
+            answer,
             byte: 0,
         };
     }
     let register = registers::address::register_at(address);
     ByteRead {
-        answer: DONE,
         chip,
+        answer: DONE,
         byte: registers::reading::register_read(chip, store, register, bus),
     }
 }

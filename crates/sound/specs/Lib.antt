@@ -1,5 +1,3 @@
 -- 01, "Sound": one channel's line in Channels, then a line of all three in Line.
 pub mod Channels
 pub mod Line
--- for the code's loop only, cited by no public promise
-pub mod Tally

@@ -2,10 +2,8 @@
 use words::WordKind;
 ghost use mathlib.Core.Bool.{true};
 ghost use mathlib.Core.Path.{_≡_};
-ghost use Prim.Native.Nat.{_≤_};
 ghost use Rattle.sound.specs.Channels.{wordAt, counted, fetched, looped, paused, repeated, controlled, executed, turnOf};
 ghost use Rattle.sound.specs.Line.{accessBy, accessOf, disturbance, ownCycles, soundLine};
-ghost use Rattle.sound.specs.Tally.{tallied};
 
 // One channel. `count` is the lines counted towards the next fall of `pause`, `counter` the passes
 // that LOOP has left, `mark` where LOOP goes back to.
@@ -235,12 +233,6 @@ impl Channel {
     }
 }
 
-// What the channels have added up to so far: the PSG registers, and the line's cycles.
-struct Tally {
-    psg: [u8; 16],
-    cycles: u8,
-}
-
 impl Entry {
     // The channel's own cycles on the line, whatever the processor did: its fetch and its word's cost, or 0.
     pub fn own_cycles(self, access: Access) -> u8
@@ -257,54 +249,32 @@ impl Entry {
             }
         }
     }
-
-    // One more channel in the tally: a LOAD sets a register, and its cycles are added.
-    fn tallied(self, access: Access, before: Tally) -> Tally
-        requires { ⌜ before .cycles ≤ 244 ⌝ }
-        ensures { λ r. ⌜ r ≡ tallied before access (self .did) ⌝ }
-    {
-        let did = self.did;
-        match did {
-            Did::SatOut => before,
-            Did::Executed(kind, low) => {
-                let cycles = before.cycles + self.own_cycles(access);
-                let mut psg = before.psg;
-                if !words::is_load(kind) {
-                    return Tally { psg, cycles };
-                }
-                psg[(low / 256 % 16) as usize] = (low % 256) as u8;
-                Tally { psg, cycles }
-            }
-        }
-    }
 }
 
-// One line of all three channels, worked through in order.
-pub fn sound_line(sound: Sound, ram: &[u8], accesses: Accesses) -> SoundLine
+// One line of all three channels, worked through in order; a LOAD sets its PSG register.
+pub fn sound_line(mut sound: Sound, ram: &[u8], accesses: Accesses) -> SoundLine
     ensures { λ r. ⌜ r ≡ soundLine (now (ram .entry)) accesses sound ⌝ }
 {
-    let mut channels = sound.channels;
     let mut entries = [Entry { did: Did::SatOut }; 3];
-    let registers = sound.psg;
-    let mut tally = Tally {
-        psg: registers,
-        cycles: 1,
-    };
-    let mut n = 0;
-    while n < 3 {
-        let turn = channels[n].line(ram);
+    let mut cycles = 1;
+    for n in 0..3 {
+        let turn = sound.channels[n].line(ram);
         let next = turn.channel;
         let did = turn.did;
         let entry = Entry { did };
-        channels[n] = next;
+        sound.channels[n] = next;
         entries[n] = entry;
-        tally = entry.tallied(accesses.of(n), tally);
-        n += 1;
+        cycles += entry.own_cycles(accesses.of(n));
+        let Did::Executed(kind, low) = did else {
+            continue;
+        };
+        if !words::is_load(kind) {
+            continue;
+        }
+        sound.psg[(low / 256 % 16) as usize] = (low % 256) as u8;
     }
-    let cycles = tally.cycles;
-    let psg = tally.psg;
     SoundLine {
-        sound: Sound { channels, psg },
+        sound,
         report: Report { cycles, entries },
     }
 }

@@ -7,21 +7,21 @@ use crate::{Access, Length, State, PLACES};
 
 #[repr(C)]
 pub(crate) struct Answered {
-    pub answer: u8,
     pub chip: State,
+    pub answer: u8,
 }
 
 #[repr(C)]
 pub(crate) struct Acknowledged {
-    pub answer: u8,
     pub chip: State,
+    pub answer: u8,
     pub vector: u8,
 }
 
 #[repr(C)]
 pub(crate) struct ByteRead {
-    pub answer: u8,
     pub chip: State,
+    pub answer: u8,
     pub byte: u8,
 }
 

@@ -1,45 +1,54 @@
--- `chip::line::step`: refused by the length of RAM, else sound and then the counters.
+-- `chip::line::step`: the parts that the line moves, put into the chip.
+use mathlib.Core.Path.{_≡_, refl}
+use mathlib.Core.Bool.{Bool, true, false}
+use mathlib.Core.List.{List}
+use Prim.Native.Nat.{ℕ, _≤_}
 use native.Mathlib.Omega.{arith}
-use borrow.Author.Tests.{ne-eqb}
+use lib.Dec.{eqb}
+use Rattle.words.specs.Answers.{done}
+use Rattle.words.specs.Choice.{if, either}
+use Rattle.sound.specs.declared.Accesses.{Accesses}
+use Rattle.sound.specs.Line.{soundAfter, soundReport}
 use Rattle.sound.proofs.Laws.{line-cycles}
+use Rattle.crtc.specs.Line.{lineOf}
+use Rattle.chip.specs.declared.Chip.{Chip}
+use Rattle.chip.specs.State.{withSound, withCounters, withRaster}
 use Rattle.chip.specs.Step.{stepAnswer, idleReport, counted, stepped}
 use borrow.Author.Needs.{needs}
 use Rattle.chip.proofs.line.step.Statement.{statement}
 use Rattle.chip.proofs.line.step.Tie as tie
 
-idle-report-requires : tie.Need-idle-report-requires
-idle-report-requires c κs = search needs
+advance-requires : tie.Need-advance-requires
+advance-requires c κs = search needs
+
+-- by whether the line is served: the chip with its parts moved, or as it was
+module _ (c : Chip) (ram : List ℕ) where
+  put-back : (t : Bool) →
+      withRaster
+      (withCounters (withSound c (if t (soundAfter ram (c .sound)) (c .sound)))
+      (if t (lineOf (c .crtc .registers) (c .video) (c .crtc .counters) .counters) (c .crtc .counters)))
+      (either (if t (lineOf (c .crtc .registers) (c .video) (c .crtc .counters) .raster) false) (c .interrupts .raster))
+      ≡ if t (stepped ram c) c
+  unfolding stepped counted
+  put-back true = refl
+  put-back false = refl
+
+  cheap : (a : Accesses) (t : Bool) → if t (soundReport ram a (c .sound)) idleReport .cycles ≤ 34
+  unfolding idleReport
+  cheap a true = line-cycles ram a (c .sound)
+  cheap a false = omega arith
 
 returns : tie.Need-returns
-unfolding stepAnswer idleReport
 returns c =
-    let refused = ne-eqb _ _ (c .before .if1 .taken) in
+    let m = c .before .before .before .before .before .before .before .advance .ensures in
+    let a = c .before .before .before .before .before .before .before .before .before .args in
+    let served = eqb (stepAnswer (a .ram .now)) done in
     record {
-      answer = simp refused;
-      chip = simp refused;
-      report = simp (refused, c .idle-report .ensures);
-      bound = simp (c .idle-report .ensures) (omega arith);
-    }
-
-sound-line-requires : tie.Need-sound-line-requires
-sound-line-requires c κs = search needs
-
-line-requires : tie.Need-line-requires
-line-requires c κs = search needs
-
-returns-2 : tie.Need-returns-2
-unfolding stepAnswer stepped counted
-returns-2 c =
-    let kept = c .before .before .before .before .before .before .before .before .before .if1 .left in
-    let sounded = c .before .before .before .before .before .before .before .before .sound-line .ensures in
-    let line = c .before .before .before .before .before .line .ensures in
-    record {
-      answer = simp kept;
-      chip = simp (kept, sounded, line);
-      report = simp (kept, sounded);
-      bound = simp sounded (line-cycles _ _ _);
+      answer = m .answer;
+      chip = rw (m .sound, m .counters, m .raster) (put-back (a .chip) (a .ram .now) served);
+      report = m .report;
+      bound = rw (m .report) (cheap (a .chip) (a .ram .now) (a .accesses) served);
     }
 
 pub step-spec : {M : Type 1} → statement M
-step-spec =
-    tie.close (tie.spec idle-report-requires returns sound-line-requires line-requires returns-2)
+step-spec = tie.close (tie.spec advance-requires returns)
