@@ -70,7 +70,7 @@ pub fn contents_of(chip: Chip, store: &[u8], register: Register) -> u8
         }
         Register::Palette(i) => {
             let palette = chip.palette;
-            picture::palette::kept_byte(i, words::byte_at(&palette, i))
+            picture::palette::byte_of(palette, i)
         }
         Register::Video(which) => video_contents(chip.video, which),
         Register::Ivr => chip.interrupts.ivr,

@@ -6,80 +6,144 @@ use Prim.Native.Nat.{ℕ, _+_, _*_, _%_, _<_}
 use native.Mathlib.Nat.{mod-eq-of-lt}
 use types.Run.{OneOf, miss}
 use denote.Enum.Declared.{tagOf}
-use borrow.Author.Tests.{eq-eqb, ne-eqb}
+use borrow.Author.Tests.{ne-eqb, eqb-true}
 use lib.Dec.{eqb}
-use lib.ListN.{length, set, take}
+use lib.ListN.{length, getD, set, take}
+use lib.Seq.{set-getD}
 use Rattle.words.specs.Answers.{served}
 use Rattle.words.specs.Choice.{if}
 use Rattle.ring.specs.declared.Undo.{Undo}
-use Rattle.ring.specs.Ring.{recordOf, pushed, Pushes, popped, tail}
-use Rattle.ring.proofs.Laws.{pushes, pop-record}
+use Rattle.ring.specs.Ring.{recordOf, pushed, Puts, popped, tail}
+use Rattle.ring.proofs.Laws.{puts, pop-record}
 use Rattle.chip.specs.declared.Chip.{Chip}
+use Rattle.chip.specs.declared.Answered.{Answered}
 use Rattle.chip.specs.State.{withUndo}
 use Rattle.registers.specs.declared.address.Register.{Register}
 use Rattle.registers.specs.declared.address.Register.the-variants.{Pixel, Sprite, Palette, Video, Ivr, Converter, Channel, Dcsr, Status, Empty}
 use Rattle.registers.specs.Address.{registerAt}
-use Rattle.registers.specs.Registers.{registerWritten, storeWritten}
+use Rattle.registers.specs.Registers.{registerWritten, storePut, storeWritten}
 use Rattle.registers.proofs.address.Register.{the-type}
 use Rattle.contents.specs.Contents.{contents}
 use Rattle.page.specs.Record.{isKept, entryRegister, entryContents, entryAt}
 use Rattle.page.specs.Page.{writeAnswer, pageWritten, placesAfter, recordAfter, Writes}
 use Rattle.page.specs.Undo.{undoAnswer, newest, undone, storeUndone, Undoes}
-use Rattle.page.specs.Parts.{Keeps, Puts}
+use Rattle.page.specs.declared.Edit.{Edit}
+use Rattle.page.specs.declared.Edit.the-variants.{Write, Back}
+use Rattle.page.specs.declared.Change.{Change}
+use Rattle.page.specs.Parts.{refusal, Keeps, Changes, Edits}
 
-module _ (c : Chip) (store places : List ℕ) where
-  -- the ways out of undo
-  pub undo-length : (length store ≡ 4096 → ⊥) → Undoes c store places store (record { answer = 1; chip = c })
-  unfolding undoAnswer
-  undo-length h =
-      let t = ne-eqb (length store) 4096 h in
-      record { call = record { answer = simp t; chip = simp t }; store-after = simp t; record-after = simp t }
-
-  pub undo-empty : length store ≡ 4096 → c .editing .undo .count ≡ 0 → Undoes c store places store (record { answer = 10; chip = c })
-  unfolding undoAnswer
-  undo-empty h k =
-      let t = eq-eqb (length store) 4096 h in
-      let u = eq-eqb (c .editing .undo .count) 0 k in
-      record { call = record { answer = simp (t, u); chip = simp (t, u) }; store-after = simp (t, u); record-after = simp (t, u) }
-
-  pub undo-served :
-      {after : List ℕ} {e : ℕ} {x : Register} {d : Chip} {u : Undo} → length store ≡ 4096 → (c .editing .undo .count ≡ 0 → ⊥) →
-      e ≡ newest c places → x ≡ entryRegister e → Puts c store x (entryContents e) (entryContents e) after d →
-      u ≡ popped (c .editing .undo) → Undoes c store places after (record { answer = 0; chip = withUndo d u })
-  unfolding undoAnswer undone
-  undo-served h k e x p q =
-      let t = eq-eqb (length store) 4096 h in
-      let n = ne-eqb (c .editing .undo .count) 0 k in
-      record {
-        call = record { answer = simp (t, n); chip = simp (t, n, ← e, ← x, p .chip, q) };
-        store-after = simp (t, n, ← e, ← x, p .store-after);
-        record-after = rw (t, n, q) (pop-record (c .editing .undo) places);
-      }
-
-  -- the ways out of a write
+module _ (c : Chip) (store : List ℕ) (place : ℕ) where
+  -- the ways out of a write's change
   pub write-refused :
-      (a b : ℕ) {n : ℕ} → n ≡ writeAnswer c (length store) a → (n ≡ 0 → ⊥) →
-      Writes c store places a b store places (record { answer = n; chip = c })
-  write-refused a b e h =
-      let t = ne-eqb _ _ (rw e at h) in
-      record { call = record { answer = e; chip = simp t }; store-after = simp t; places-after = simp t; record-after = simp t }
+      (a b : ℕ) {n : ℕ} {h : Change} → n ≡ writeAnswer c (length store) a → (n ≡ 0 → ⊥) → h ≡ refusal (c .editing .undo) n →
+      Changes c store place (Write a b) place h
+  write-refused a b e z is =
+      let t = ne-eqb _ _ (rw e at z) in
+      record { change = is ∙ simp (t, e); place-after = simp t }
 
   pub write-served :
-      (a b : ℕ) {n v : ℕ} {x : Register} {after spots : List ℕ} {d : Chip} {u : Undo} →
-      n ≡ writeAnswer c (length store) a → n ≡ 0 → x ≡ registerAt a → v ≡ contents c store x → v < 256 →
-      Keeps (c .editing .undo) places x (a * 256 + v) spots u → Puts c store x b (b % 16) after d →
-      Writes c store places a b after spots (record { answer = 0; chip = withUndo d u })
-  unfolding pageWritten placesAfter recordAfter
-  write-served a b {v = v} {x = x} e z r is small k p =
+      (a b : ℕ) {n v : ℕ} {x : Register} {u : Undo} {place' : ℕ} → n ≡ writeAnswer c (length store) a → n ≡ 0 → x ≡ registerAt a →
+      v ≡ contents c store x → v < 256 → Keeps (c .editing .undo) x place (a * 256 + v) place' u →
+      Changes c store place (Write a b) place' (record { answer = n; register = x; byte = b; pixel = b % 16; undo = u })
+  write-served a b {v = v} {x = x} e z r is small k =
       let t = sym e ∙ z in
       let w : a * 256 + v ≡ entryAt c store a =
       ap (λ n. a * 256 + n) (sym (mod-eq-of-lt small) ∙ ap (λ n. n % 256) (is ∙ ap (contents c store) r)) in
+      record { change = simp (t, z, r, k .undo); place-after = k .place-after ∙ rw (t, w, r) }
+
+  -- an edit by its change: the chip has the byte in its register and the record's new state
+  pub edits :
+      (e : Edit) {h : Change} {x : Chip} {store' : List ℕ} {place' : ℕ} → Changes c store place e place' h →
+      store' ≡ storePut store (h .register) (h .pixel) →
+      x ≡ withUndo (registerWritten c (h .register) (h .byte)) (h .undo) →
+      Edits c store place e store' place' (record { chip = x; answer = h .answer })
+  edits e k stored is =
       record {
-        call = record { answer = sym t; chip = simp (t, ← r, p .chip, k .undo) };
-        store-after = simp (t, ← r, p .store-after);
-        places-after = rw t (k .places-after ∙ rw (w, r));
-        record-after = rw t (k .record-after ∙ rw (w, r));
+        answer = ap (λ (h : Change). h .answer) (k .change);
+        chip = is ∙ ap (λ (h : Change). withUndo (registerWritten c (h .register) (h .byte)) (h .undo)) (k .change);
+        store-after = stored ∙ ap (λ (h : Change). storePut store (h .register) (h .pixel)) (k .change);
+        place-after = k .place-after;
       }
+
+module _ (c : Chip) (store places : List ℕ) where
+  u : Undo
+  u = c .editing .undo
+
+  -- a write, from its edit and the entry put at the record's place
+  pub writes :
+      (a b : ℕ) {store' places' : List ℕ} {place' : ℕ} {r : Answered} →
+      Edits c store (getD places (c .editing .undo .next % 256) 0) (Write a b) store' place' r →
+      Puts (c .editing .undo) places place' places' → Writes c store places a b store' places' r
+  unfolding u pageWritten placesAfter recordAfter
+  writes a b {store'} {places'} {place'} {r} e p =
+      go (eqb (writeAnswer c (length store) a) 0) (isKept (registerAt a)) refl refl e
+    where
+      -- what stood at the record's place stands there again
+      unchanged : place' ≡ getD places (u .next % 256) 0 → places' ≡ places
+      unchanged h = p .places-after ∙ rw h (set-getD places (u .next % 256) 0)
+
+      go :
+          (t k : Bool) → eqb (writeAnswer c (length store) a) 0 ≡ t → isKept (registerAt a) ≡ k →
+          Edits c store (getD places (u .next % 256) 0) (Write a b) store' place' r → Writes c store places a b store' places' r
+      go true true is kept e =
+          let chip = rw (is, kept) at (e .chip) in
+          let entry = rw (is, kept) at (e .place-after) in
+          record {
+            call = record { answer = (rw is at (e .answer)) ∙ sym (eqb-true _ _ is); chip = rw (is, kept) chip };
+            store-after = rw is (rw is at (e .store-after));
+            places-after = rw (is, kept, ← entry) (p .places-after);
+            record-after = rw (is, kept, chip, ← entry) (p .record-after);
+          }
+      go true false is kept e =
+          let chip = rw (is, kept) at (e .chip) in
+          let same = unchanged (rw (is, kept) at (e .place-after)) in
+          record {
+            call = record { answer = (rw is at (e .answer)) ∙ sym (eqb-true _ _ is); chip = rw (is, kept) chip };
+            store-after = rw is (rw is at (e .store-after));
+            places-after = rw (is, kept) same;
+            record-after = rw (is, kept, chip, same);
+          }
+      go false k is kept e =
+          let chip = rw is at (e .chip) in
+          let same = unchanged (rw is at (e .place-after)) in
+          record {
+            call = record { answer = rw is at (e .answer); chip = rw is chip };
+            store-after = rw is (rw is at (e .store-after));
+            places-after = rw is same;
+            record-after = rw (is, chip, same);
+          }
+
+  -- an undo, from its edit
+  pub undoes :
+      {store' : List ℕ} {place' : ℕ} {r : Answered} → Edits c store (newest c places) Back store' place' r →
+      Undoes c store places store' r
+  unfolding u undoAnswer undone
+  undoes {store'} {place'} {r} e = go (eqb (length store) 4096) (eqb (u .count) 0) refl refl e
+    where
+      go :
+          (t k : Bool) → eqb (length store) 4096 ≡ t → eqb (u .count) 0 ≡ k →
+          Edits c store (newest c places) Back store' place' r → Undoes c store places store' r
+      go true false is some e =
+          let chip = rw (is, some) at (e .chip) in
+          record {
+            call = record { answer = rw (is, some) (rw (is, some) at (e .answer)); chip = rw (is, some) chip };
+            store-after = rw (is, some) (rw (is, some) at (e .store-after));
+            record-after = rw (is, some, chip) (rw some at (pop-record u places));
+          }
+      go true true is none e =
+          let chip = rw (is, none) at (e .chip) in
+          record {
+            call = record { answer = rw (is, none) (rw (is, none) at (e .answer)); chip = rw (is, none) chip };
+            store-after = rw (is, none) (rw (is, none) at (e .store-after));
+            record-after = rw (is, none, chip);
+          }
+      go false k is some e =
+          let chip = rw is at (e .chip) in
+          record {
+            call = record { answer = rw is (rw is at (e .answer)); chip = rw is chip };
+            store-after = rw is (rw is at (e .store-after));
+            record-after = rw (is, chip);
+          }
 
 -- the variants other than DCSR, by their numbers
 abbrev others : List ℕ
@@ -97,15 +161,10 @@ is-kept Dcsr h = absurd (miss others 7 tt h)
 is-kept Status h = refl
 is-kept Empty h = refl
 
-pub keeps-none : (u : Undo) (places : List ℕ) (x : Register) (entry : ℕ) → x ≡ Dcsr → Keeps u places x entry places u
-keeps-none u places x entry h = rw h (record { undo = refl; places-after = refl; record-after = refl })
-
 pub keeps-one :
-    (u : Undo) (places : List ℕ) (x : Register) (entry : ℕ) {after : List ℕ} {r : Undo} →
-    OneOf others (tagOf the-type x) → Pushes u places entry after r → Keeps u places x entry after r
-keeps-one u places x entry h p =
-    let t = is-kept x h in
-    record { undo = p .undo ∙ simp t; places-after = p .places-after ∙ simp t; record-after = p .record-after ∙ simp t }
+    (u : Undo) (x : Register) (place entry : ℕ) {r : Undo} → OneOf others (tagOf the-type x) → r ≡ pushed u →
+    Keeps u x place entry entry r
+keeps-one u x place entry h is = let t = is-kept x h in record { undo = is ∙ simp t; place-after = simp t }
 
 -- what the two promise can be had on every chip, whatever is lent, with 256 places
 module _ (c : Chip) (store places : List ℕ) where
@@ -134,7 +193,7 @@ module _ (c : Chip) (store places : List ℕ) where
           recordOf ((if t (withUndo (registerWritten c (registerAt a) b) (if k (pushed u) u)) c) .editing .undo)
           (if t (if k (set places (u .next % 256) e) places) places)
           ≡ if t (if k (take 256 (e ∷ recordOf u places)) (recordOf u places)) (recordOf u places)
-      go true true = pushes u places e whole .record-after
+      go true true = puts u places e whole .record-after
       go true false = refl
       go false k = refl
 

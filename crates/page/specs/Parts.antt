@@ -1,23 +1,68 @@
 -- Serves only the code's own parts, in the contracts of private functions. No public promise cites it.
 use mathlib.Core.Path.{_≡_}
-use mathlib.Core.List.{List, _∷_}
+use mathlib.Core.List.{List}
 use Prim.Native.Nat.{ℕ, _%_}
-use lib.ListN.{set, take}
+use lib.Dec.{eqb}
+use lib.ListN.{length}
+use Rattle.words.specs.Answers.{done, wrongLength, nothingToUndo, served}
 use Rattle.words.specs.Choice.{if}
 use Rattle.ring.specs.declared.Undo.{Undo}
-use Rattle.ring.specs.Ring.{recordOf}
+use Rattle.ring.specs.Ring.{popped}
 use Rattle.chip.specs.declared.Chip.{Chip}
+use Rattle.chip.specs.declared.Answered.{Answered}
+use Rattle.chip.specs.State.{withUndo}
 use Rattle.registers.specs.declared.address.Register.{Register}
+use Rattle.registers.specs.declared.address.Register.the-variants.{Empty}
+use Rattle.registers.specs.Address.{registerAt}
 use Rattle.registers.specs.Registers.{registerWritten, storePut}
-use Rattle.page.specs.Record.{isKept, undoAfter}
+use Rattle.page.specs.declared.Edit.{Edit}
+use Rattle.page.specs.declared.Edit.the-variants.{Write, Back}
+use Rattle.page.specs.declared.Change.{Change}
+use Rattle.page.specs.Record.{isKept, entryAt, entryRegister, entryContents, undoAfter}
+use Rattle.page.specs.Page.{writeAnswer}
 
--- an entry kept, or not
-pub record Keeps (u : Undo) (places : List ℕ) (x : Register) (entry : ℕ) (places' : List ℕ) (r : Undo) : Type 0 where
+-- an entry kept at a place, or not
+pub record Keeps (u : Undo) (x : Register) (place entry place' : ℕ) (r : Undo) : Type 0 where
   pub undo : r ≡ undoAfter u x
-  pub places-after : places' ≡ if (isKept x) (set places (u .next % 256) entry) places
-  pub record-after : recordOf r places' ≡ if (isKept x) (take 256 (entry ∷ recordOf u places)) (recordOf u places)
+  pub place-after : place' ≡ if (isKept x) entry place
 
--- a byte put into the chip, or another into the store
-pub record Puts (c : Chip) (store : List ℕ) (x : Register) (b v : ℕ) (store' : List ℕ) (r : Chip) : Type 0 where
-  pub chip : r ≡ registerWritten c x b
-  pub store-after : store' ≡ storePut store x v
+-- a refused edit
+abbrev pub refusal : Undo → ℕ → Change
+refusal u n = record { answer = n; register = Empty; byte = 0; pixel = 0; undo = u }
+
+-- a served write, and a served undo
+abbrev pub writeChange : Undo → ℕ → ℕ → Change
+writeChange u a b = record { answer = done; register = registerAt a; byte = b; pixel = b % 16; undo = undoAfter u (registerAt a) }
+
+abbrev pub undoChange : Undo → ℕ → Change
+undoChange u e =
+    record { answer = done; register = entryRegister e; byte = entryContents e; pixel = entryContents e; undo = popped u }
+
+-- undo, by the size of the store and whether an entry is left
+abbrev pub backChange : Undo → ℕ → ℕ → Change
+backChange u size e =
+    if (eqb size 4096) (if (eqb (u .count) 0) (refusal u nothingToUndo) (undoChange u e)) (refusal u wrongLength)
+
+-- what an edit changes, with what stands at the record's place
+abbrev pub changeOf : Chip → List ℕ → ℕ → Edit → Change
+changeOf c store place (Write a b) =
+    served (writeAnswer c (length store) a) (writeChange (c .editing .undo) a b) (refusal (c .editing .undo) (writeAnswer c (length store) a))
+changeOf c store place Back = backChange (c .editing .undo) (length store) place
+
+-- and what stands there after it
+abbrev pub placeAfter : Chip → List ℕ → ℕ → Edit → ℕ
+placeAfter c store place (Write a b) =
+    served (writeAnswer c (length store) a) (if (isKept (registerAt a)) (entryAt c store a) place) place
+placeAfter c store place Back = place
+
+pub record Changes (c : Chip) (store : List ℕ) (place : ℕ) (e : Edit) (place' : ℕ) (r : Change) : Type 0 where
+  pub change : r ≡ changeOf c store place e
+  pub place-after : place' ≡ placeAfter c store place e
+
+-- an edit made
+pub record Edits (c : Chip) (store : List ℕ) (place : ℕ) (e : Edit) (store' : List ℕ) (place' : ℕ) (r : Answered) : Type 0 where
+  pub answer : r .answer ≡ changeOf c store place e .answer
+  pub chip :
+      r .chip ≡ withUndo (registerWritten c (changeOf c store place e .register) (changeOf c store place e .byte)) (changeOf c store place e .undo)
+  pub store-after : store' ≡ storePut store (changeOf c store place e .register) (changeOf c store place e .pixel)
+  pub place-after : place' ≡ placeAfter c store place e

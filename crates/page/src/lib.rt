@@ -12,7 +12,8 @@ ghost use mathlib.Core.Path.{_≡_};
 ghost use Rattle.registers.specs.Registers.{registerAnswer};
 ghost use Rattle.page.specs.Page.{pageAnswer, readAnswer, Writes, Reads};
 ghost use Rattle.page.specs.Undo.{Undoes};
-ghost use Rattle.page.specs.Parts.{Keeps, Puts};
+ghost use Rattle.page.specs.declared.Edit.the-variants.{Write};
+ghost use Rattle.page.specs.Parts.{refusal, backChange, Keeps, Changes, Edits};
 
 // A page read's answer: the chip, the number, the byte.
 #[repr(C)]
@@ -20,6 +21,22 @@ pub struct ByteRead {
     pub chip: Chip,
     pub answer: u8,
     pub byte: u8,
+}
+
+// What is asked of the page beside reads: a byte written to an address, or the newest write taken back.
+enum Edit {
+    Write(u16, u8),
+    Back,
+}
+
+// What an edit changes: a register gets a byte, but a pixel one of its own in the store, and the record goes on. One that is refused
+// has no register.
+struct Change {
+    answer: u8,
+    register: Register,
+    byte: u8,
+    pixel: u8,
+    undo: Undo,
 }
 
 // The answer number of a page read, for a store of this length.
@@ -52,22 +69,122 @@ fn write_answer(chip: Chip, size: usize, address: u16, register: Register) -> u8
     registers::writing::register_answer(register)
 }
 
-// The record with a write more, at lent places; one to DCSR is not kept.
-fn kept(undo: Undo, places: &mut [u32; 256], register: Register, entry: u32) -> Undo
-    ensures { λ r. ⌜ Keeps undo (now (places .entry)) register entry (now (places .exit)) r ⌝ }
+// The state of the record after a served write to this register, whose entry is given; one to DCSR is not kept.
+fn kept(undo: Undo, register: Register, place: &mut u32, entry: u32) -> Undo
+    ensures { λ r. ⌜ Keeps undo register (now (place .entry)) entry (now (place .exit)) r ⌝ }
 {
     if let Register::Dcsr = register {
         return undo;
     }
-    ring::push(undo, places, entry)
+    *place = entry;
+    undo.pushed()
 }
 
-// A byte put into a register of the chip, or, for a pixel, another into the store.
-fn put(chip: Chip, store: &mut [u8], register: Register, byte: u8, pixel: u8) -> Chip
-    ensures { λ r. ⌜ Puts chip (now (store .entry)) register byte pixel (now (store .exit)) r ⌝ }
+// What becomes of an edit that is refused: nothing.
+fn refusal(undo: Undo, answer: u8) -> Change
+    ensures { λ r. ⌜ r ≡ refusal undo answer ⌝ }
 {
-    registers::writing::store_put(store, register, pixel);
-    registers::writing::register_written(chip, register, byte)
+    Change {
+        answer,
+        register: Register::Empty,
+        byte: 0,
+        pixel: 0,
+        undo,
+    }
+}
+
+// A byte written to an address; of a pixel 4 bits are stored.
+fn write_change(chip: Chip, store: &[u8], place: &mut u32, address: u16, byte: u8) -> Change
+    ensures { λ r. ⌜ Changes chip (now (store .entry)) (now (place .entry)) (Write address byte) (now (place .exit)) r ⌝ }
+{
+    let undo = chip.editing.undo;
+    let register = registers::address::register_at(address);
+    let answer = write_answer(chip, store.len(), address, register);
+    if answer != DONE {
+        return refusal(undo, answer);
+    }
+    let before = contents::contents_of(chip, store, register);
+    let entry = address as u32 * 256 + before as u32;
+    Change {
+        answer,
+        register,
+        byte,
+        pixel: byte % 16,
+        undo: kept(undo, register, place, entry),
+    }
+}
+
+// The newest entry taken back; a pixel's whole byte is.
+fn undo_change(undo: Undo, length: usize, entry: u32) -> Change
+    ensures { λ r. ⌜ r ≡ backChange undo length entry ⌝ }
+{
+    if length != 4096 {
+        return refusal(undo, WRONG_LENGTH);
+    }
+    if undo.count == 0 {
+        return refusal(undo, NOTHING_TO_UNDO);
+    }
+    let byte = (entry % 256) as u8;
+    Change {
+        answer: DONE,
+        register: registers::address::register_at((entry / 256 % 65536) as u16),
+        byte,
+        pixel: byte,
+        undo: undo.popped(),
+    }
+}
+
+// What an edit changes. `place` is what the record has at the place of the entry that a write puts there, or that is taken back.
+fn change_of(chip: Chip, store: &[u8], place: &mut u32, edit: Edit) -> Change
+    ensures { λ r. ⌜ Changes chip (now (store .entry)) (now (place .entry)) edit (now (place .exit)) r ⌝ }
+{
+    match edit {
+        Edit::Write(address, byte) => write_change(chip, store, place, address, byte),
+        Edit::Back => undo_change(chip.editing.undo, store.len(), *place),
+    }
+}
+
+// Makes an edit. Page write and undo are this one function, which changes the chip in place: a call of it copies the chip once in and
+// once out, and a function between would copy it again.
+fn edited(mut chip: Chip, store: &mut [u8], place: &mut u32, edit: Edit) -> Answered
+    ensures { λ r. ⌜ Edits chip (now (store .entry)) (now (place .entry)) edit (now (store .exit)) (now (place .exit)) r ⌝ }
+{
+    let change = change_of(chip, store, place, edit);
+    let answer = change.answer;
+    let register = change.register;
+    let byte = change.byte;
+    let undo = change.undo;
+    registers::writing::store_put(store, register, change.pixel);
+    let editing = Editing { undo };
+    chip.editing = editing;
+    match register {
+        Register::Pixel(_) => {}
+        Register::Sprite(n, part) => {
+            if n < 16 {
+                let sprite = chip.sprites[n];
+                chip.sprites[n] = sprite.written(part, byte);
+            }
+        }
+        Register::Palette(i) => {
+            if i < 64 {
+                chip.palette[i] = picture::palette::kept_byte(i, byte);
+            }
+        }
+        Register::Video(which) => {
+            chip.video = registers::writing::video_written(chip.video, which, byte);
+        }
+        Register::Ivr => chip.interrupts.ivr = byte,
+        Register::Converter => {}
+        Register::Channel(n, which) => {
+            chip.sound = registers::writing::channels_written(chip.sound, n, which, byte);
+        }
+        Register::Dcsr => {
+            chip.sound = registers::writing::dcsr_written(chip.sound, byte);
+        }
+        Register::Status => {}
+        Register::Empty => {}
+    }
+    Answered { chip, answer }
 }
 
 // A byte written to the page. The record of writes stands at the lent places.
@@ -80,52 +197,20 @@ pub fn page_write(
 ) -> Answered
     ensures { λ r. ⌜ Writes chip (now (store .entry)) (now (places .entry)) address byte (now (store .exit)) (now (places .exit)) r ⌝ }
 {
-    let register = registers::address::register_at(address);
-    let answer = write_answer(chip, store.len(), address, register);
-    if answer != DONE {
-        return Answered { answer, chip };
-    }
-    let before = contents::contents_of(chip, store, register);
-    let entry = address as u32 * 256 + before as u32;
-    let undo = kept(chip.editing.undo, places, register, entry);
-    let mut next = put(chip, store, register, byte, byte % 16);
-    let editing = Editing { undo };
-    next.editing = editing;
-    Answered {
-        answer: DONE,
-        chip: next,
-    }
+    let undo = chip.editing.undo;
+    let mut place = undo.standing(places);
+    let done = edited(chip, store, &mut place, Edit::Write(address, byte));
+    undo.put(places, place);
+    done
 }
 
 // Takes back the newest write that the record has left: its register gets its former contents.
 pub fn undo(chip: Chip, store: &mut [u8], places: &[u32; 256]) -> Answered
     ensures { λ r. ⌜ Undoes chip (now (store .entry)) (now (places .entry)) (now (store .exit)) r ⌝ }
 {
-    if store.len() != 4096 {
-        return Answered {
-            answer: WRONG_LENGTH,
-            chip,
-        };
-    }
     let undo = chip.editing.undo;
-    if undo.count == 0 {
-        return Answered {
-            answer: NOTHING_TO_UNDO,
-            chip,
-        };
-    }
-    let popped = ring::pop(undo, places);
-    let entry = popped.entry;
-    let rest = popped.undo;
-    let register = registers::address::register_at((entry / 256 % 65536) as u16);
-    let byte = (entry % 256) as u8;
-    let mut next = put(chip, store, register, byte, byte);
-    let editing = Editing { undo: rest };
-    next.editing = editing;
-    Answered {
-        answer: DONE,
-        chip: next,
-    }
+    let mut place = undo.newest(places);
+    edited(chip, store, &mut place, Edit::Back)
 }
 
 // A byte read from the page; `bus` is what the bus holds where nothing can be read.

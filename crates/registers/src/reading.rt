@@ -73,7 +73,7 @@ pub fn register_read(chip: Chip, store: &[u8], register: Register, bus: u8) -> u
         Register::Sprite(n, place) => sprite_read(chip, n, place, bus),
         Register::Palette(i) => {
             let palette = chip.palette;
-            picture::palette::kept_byte(i, words::byte_at(&palette, i))
+            picture::palette::byte_of(palette, i)
         }
         Register::Video(_) => bus,
         Register::Ivr => bus,

@@ -2,9 +2,7 @@
 use crate::address::ChannelRegister;
 use crate::address::Register;
 use crate::address::VideoRegister;
-use chip::Chip;
 use crtc::Video;
-use picture::sprite::Sprite;
 use sound::Channel;
 use sound::Sound;
 use words::answer::CONVERTER_THERE;
@@ -12,11 +10,9 @@ use words::answer::DONE;
 use words::answer::NOTHING_THERE;
 ghost use mathlib.Core.Bool.{false};
 ghost use mathlib.Core.Path.{_≡_};
-ghost use lib.ListN.{set};
 ghost use Rattle.words.specs.Choice.{if};
 ghost use Rattle.sound.specs.Channels.{withFlags};
-ghost use Rattle.picture.specs.Palette.{keptByte};
-ghost use Rattle.registers.specs.Registers.{registerAnswer, spriteWritten, videoWritten, channelWritten, channelsWritten, dcsrWritten, registerWritten, storePut};
+ghost use Rattle.registers.specs.Registers.{registerAnswer, videoWritten, channelWritten, channelsWritten, dcsrWritten, storePut};
 
 // What a write to the register answers.
 pub fn register_answer(register: Register) -> u8
@@ -36,33 +32,8 @@ pub fn register_answer(register: Register) -> u8
     }
 }
 
-// The sprites with one register written; there are 16.
-fn sprite_written(sprites: [Sprite; 16], n: usize, place: u8, byte: u8) -> [Sprite; 16]
-    ensures { λ r. ⌜ r ≡ spriteWritten sprites n place byte ⌝ }
-{
-    let mut all = sprites;
-    if 16 <= n {
-        return all;
-    }
-    let sprite = all[n];
-    all[n] = sprite.written(place, byte);
-    all
-}
-
-// The palette with one byte written; it has 64.
-fn palette_written(palette: [u8; 64], i: usize, byte: u8) -> [u8; 64]
-    ensures { λ r. ⌜ r ≡ set palette i (keptByte i byte) ⌝ }
-{
-    let mut all = palette;
-    if 64 <= i {
-        return all;
-    }
-    all[i] = picture::palette::kept_byte(i, byte);
-    all
-}
-
 // PRI, split and SSCR with one of them written.
-fn video_written(video: Video, which: VideoRegister, byte: u8) -> Video
+pub fn video_written(video: Video, which: VideoRegister, byte: u8) -> Video
     ensures { λ r. ⌜ r ≡ videoWritten video which byte ⌝ }
 {
     let mut v = video;
@@ -124,26 +95,20 @@ fn control_written(channel: Channel, enable: bool, clear: bool) -> Channel
     c
 }
 
-// The channels with one start address or prescale written; there are 3.
-fn channels_written(
-    channels: [Channel; 3],
-    n: usize,
-    which: ChannelRegister,
-    byte: u8,
-) -> [Channel; 3]
-    ensures { λ r. ⌜ r ≡ channelsWritten channels n which byte ⌝ }
+// The sound state with a channel's start address or prescale written; there are 3 channels.
+pub fn channels_written(mut sound: Sound, n: usize, which: ChannelRegister, byte: u8) -> Sound
+    ensures { λ r. ⌜ r ≡ record { channels = channelsWritten (sound .channels) n which byte; psg = sound .psg } ⌝ }
 {
-    let mut all = channels;
     if 3 <= n {
-        return all;
+        return sound;
     }
-    let channel = all[n];
-    all[n] = channel_written(channel, which, byte);
-    all
+    let channel = sound.channels[n];
+    sound.channels[n] = channel_written(channel, which, byte);
+    sound
 }
 
 // The sound state with DCSR written.
-fn dcsr_written(mut sound: Sound, byte: u8) -> Sound
+pub fn dcsr_written(mut sound: Sound, byte: u8) -> Sound
     ensures { λ r. ⌜ r ≡ record { channels = dcsrWritten (sound .channels) byte; psg = sound .psg } ⌝ }
 {
     let channels = sound.channels;
@@ -153,50 +118,6 @@ fn dcsr_written(mut sound: Sound, byte: u8) -> Sound
     let written = [zero, one, two];
     sound.channels = written;
     sound
-}
-
-// The chip with a register written. Pixels are not in the chip.
-pub fn register_written(mut chip: Chip, register: Register, byte: u8) -> Chip
-    ensures { λ r. ⌜ r ≡ registerWritten chip register byte ⌝ }
-{
-    match register {
-        Register::Pixel(_) => chip,
-        Register::Sprite(n, place) => {
-            let before = chip.sprites;
-            let sprites = sprite_written(before, n, place, byte);
-            chip.sprites = sprites;
-            chip
-        }
-        Register::Palette(i) => {
-            let before = chip.palette;
-            let palette = palette_written(before, i, byte);
-            chip.palette = palette;
-            chip
-        }
-        Register::Video(which) => {
-            chip.video = video_written(chip.video, which, byte);
-            chip
-        }
-        Register::Ivr => {
-            chip.interrupts.ivr = byte;
-            chip
-        }
-        Register::Converter => chip,
-        Register::Channel(n, which) => {
-            let mut sound = chip.sound;
-            let before = sound.channels;
-            let channels = channels_written(before, n, which, byte);
-            sound.channels = channels;
-            chip.sound = sound;
-            chip
-        }
-        Register::Dcsr => {
-            chip.sound = dcsr_written(chip.sound, byte);
-            chip
-        }
-        Register::Status => chip,
-        Register::Empty => chip,
-    }
 }
 
 // The store with a byte put at a pixel's place; any other register leaves it.

@@ -6,12 +6,14 @@ use Prim.Native.Nat.{ℕ, zero, suc, _+_, _%_, _-_, _<_, _≤_}
 use native.Mathlib.Nat.{mod-eq-of-lt}
 use native.Mathlib.Numerals.{add-one, unary-clauses}
 use native.Mathlib.Omega.{arith}
-use borrow.Author.Tests.{le-leb, lt-leb, leb-true, leb-false, eq-eqb, ne-eqb, eqb-true, eqb-false}
-use lib.Dec.{eqb, leb}
+use borrow.Author.Tests.{le-leb, lt-leb, eqb-true, eqb-false}
+use lib.Dec.{eqb}
+use Rattle.words.proofs.Order.{either-side}
+use Rattle.words.specs.Choice.{if}
 use lib.ListN.{length, take, getD, set}
 use lib.Seq.{take-nil, getD-set-same, getD-set-other}
 use Rattle.ring.specs.declared.Undo.{Undo}
-use Rattle.ring.specs.Ring.{back, entries, recordOf, pushed, Pushes, Pops, popped, tail, head}
+use Rattle.ring.specs.Ring.{back, entries, recordOf, pushed, Puts, popped, tail, head}
 
 -- the place at which an entry is put is met again only 256 entries on: j places back, n entries are read
 untouched : (places : List ℕ) (next e place j n : ℕ) → next < 256 → (place + j) % 256 ≡ next → j + n < 256 →
@@ -67,41 +69,22 @@ module _ (places : List ℕ) (next e : ℕ) (whole : length places ≡ 256) wher
       entries (set places (next % 256) e) ((next + 1) % 256) 256 ≡ take 256 (e ∷ entries places next count)
   push-full count q = rw (fewer places next 255 count (omega arith)) (pushed-list 255 (omega arith))
 
--- an entry pushed, with room and without; and either way
-module _ (u : Undo) (places : List ℕ) (entry : ℕ) (whole : length places ≡ 256) where
-  pub pushes-short :
-      u .count < 256 →
-      Pushes u places entry (set places (u .next % 256) entry) (record { next = (u .next + 1) % 256; count = u .count + 1 })
-  unfolding recordOf
-  pushes-short q =
-      record {
-        undo = rw (lt-leb 256 (u .count) q);
-        places-after = refl;
-        record-after = push-short places (u .next) entry whole (u .count) q;
-      }
-
-  pub pushes-full :
-      256 ≤ u .count → Pushes u places entry (set places (u .next % 256) entry) (record { next = (u .next + 1) % 256; count = 256 })
-  unfolding recordOf
-  pushes-full q =
-      record {
-        undo = rw (le-leb 256 (u .count) q);
-        places-after = refl;
-        record-after = push-full places (u .next) entry whole (u .count) q;
-      }
-
-  pub pushes : Pushes u places entry (set places (u .next % 256) entry) (pushed u)
-  pushes = go (leb 256 (u .count)) refl
-    where
-      go : (t : Bool) → leb 256 (u .count) ≡ t → Pushes u places entry (set places (u .next % 256) entry) (pushed u)
-      go true e = let p = pushes-full (leb-true _ _ e) in rw (← p .undo) p
-      go false e = let p = pushes-short (leb-false _ _ e) in rw (← p .undo) p
+-- an entry put at the next place, with room for it and without
+pub puts : (u : Undo) (places : List ℕ) (entry : ℕ) → length places ≡ 256 → Puts u places entry (set places (u .next % 256) entry)
+unfolding recordOf
+puts u places entry whole =
+    record {
+      places-after = refl;
+      record-after =
+          either-side (u .count) 256
+          (λ less. rw (lt-leb 256 (u .count) less) (push-short places (u .next) entry whole (u .count) less))
+          (λ more. rw (le-leb 256 (u .count) more) (push-full places (u .next) entry whole (u .count) more));
+    }
 
 -- a place below 256 is its own remainder
-pub in-place :
-    (u : Undo) (places : List ℕ) (entry : ℕ) (r : Undo) → u .next < 256 →
-    Pushes u places entry (set places (u .next % 256) entry) r → Pushes u places entry (set places (u .next) entry) r
-in-place u places entry r h p = subst (λ (n : ℕ). Pushes u places entry (set places n entry) r) (mod-eq-of-lt h) p
+pub puts-at : (u : Undo) (places : List ℕ) (entry : ℕ) → length places ≡ 256 → u .next < 256 → Puts u places entry (set places (u .next) entry)
+puts-at u places entry whole small =
+    subst (λ n. Puts u places entry (set places n entry)) (mod-eq-of-lt small) (puts u places entry whole)
 
 module _ (u : Undo) (places : List ℕ) where
   one-less : (place n : ℕ) → 0 < n → entries places place n ≡ getD places (back place) 0 ∷ entries places (back place) (n - 1)
@@ -109,30 +92,27 @@ module _ (u : Undo) (places : List ℕ) where
   one-less place zero h = absurd (omega arith)
   one-less place (suc n) h = simp unary-clauses
 
-  -- the two ways of popping
-  pub pops-none : u .count ≡ 0 → Pops u places (record { undo = u; entry = 0 })
+  none : u .count ≡ 0 → recordOf u places ≡ []
   unfolding recordOf entries
-  pops-none h = record { undo = simp (eq-eqb _ _ h); entry = rw h; record-after = rw h }
+  none h = rw h
 
-  pub pops-one : (u .count ≡ 0 → ⊥) →
-      Pops u places (record { undo = record { next = back (u .next); count = u .count - 1 }; entry = getD places (back (u .next)) 0 })
+  some : (u .count ≡ 0 → ⊥) →
+      recordOf u places ≡ getD places (back (u .next)) 0 ∷ recordOf (record { next = back (u .next); count = u .count - 1 }) places
   unfolding recordOf
-  pops-one some =
-      let h : 0 < u .count = omega arith in
-      record {
-        undo = simp (ne-eqb _ _ some);
-        entry = rw (one-less (u .next) (u .count) h);
-        record-after = rw (one-less (u .next) (u .count) h);
-      }
+  some h = one-less (u .next) (u .count) (omega arith)
 
--- so a record without its newest entry is the tail, whatever it holds
-pub pop-record : (u : Undo) (places : List ℕ) → recordOf (popped u) places ≡ tail (recordOf u places)
-pop-record u places = go (eqb (u .count) 0) refl
-  where
-    go : (t : Bool) → eqb (u .count) 0 ≡ t → recordOf (popped u) places ≡ tail (recordOf u places)
-    go true e =
-        let p = pops-none u places (eqb-true _ _ e) in
-        rw (← p .undo) (p .record-after)
-    go false e =
-        let p = pops-one u places (eqb-false _ _ e) in
-        rw (← p .undo) (p .record-after)
+  -- the newest entry
+  pub newest-none : u .count ≡ 0 → 0 ≡ head (recordOf u places)
+  newest-none h = rw (none h)
+
+  pub newest-some : (u .count ≡ 0 → ⊥) → getD places (back (u .next)) 0 ≡ head (recordOf u places)
+  newest-some h = rw (some h)
+
+  -- a record without it is the tail, whatever it holds
+  pub pop-record : recordOf (popped u) places ≡ tail (recordOf u places)
+  pop-record = go (eqb (u .count) 0) refl
+    where
+      go : (t : Bool) → eqb (u .count) 0 ≡ t →
+          recordOf (if t u (record { next = back (u .next); count = u .count - 1 })) places ≡ tail (recordOf u places)
+      go true e = rw (none (eqb-true _ _ e))
+      go false e = rw (some (eqb-false _ _ e))

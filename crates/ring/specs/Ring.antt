@@ -6,7 +6,6 @@ use lib.Dec.{eqb, leb}
 use lib.ListN.{take, getD, set}
 use Rattle.words.specs.Choice.{if}
 use Rattle.ring.specs.declared.Undo.{Undo}
-use Rattle.ring.specs.declared.Popped.{Popped}
 
 -- the place before this one
 abbrev pub back : ℕ → ℕ
@@ -34,18 +33,11 @@ tail (x ∷ xs) = xs
 abbrev pub pushed : Undo → Undo
 pushed u = record { next = (u .next + 1) % 256; count = if (leb 256 (u .count)) 256 (u .count + 1) }
 
--- what pushing promises: the ring, and the record as a list
-pub record Pushes (u : Undo) (places : List ℕ) (entry : ℕ) (after : List ℕ) (r : Undo) : Type 0 where
-  pub undo : r ≡ pushed u
-  pub places-after : after ≡ set places (u .next % 256) entry
-  pub record-after : recordOf r after ≡ take 256 (entry ∷ recordOf u places)
-
 -- without its newest entry; an empty one stays
 abbrev pub popped : Undo → Undo
 popped u = if (eqb (u .count) 0) u (record { next = back (u .next); count = u .count - 1 })
 
--- what popping promises
-pub record Pops (u : Undo) (places : List ℕ) (r : Popped) : Type 0 where
-  pub undo : r .undo ≡ popped u
-  pub entry : r .entry ≡ head (recordOf u places)
-  pub record-after : recordOf (r .undo) places ≡ tail (recordOf u places)
+-- what putting an entry at the next place promises: the places, and, with the entry counted, the record as a list
+pub record Puts (u : Undo) (places : List ℕ) (entry : ℕ) (after : List ℕ) : Type 0 where
+  pub places-after : after ≡ set places (u .next % 256) entry
+  pub record-after : recordOf (pushed u) after ≡ take 256 (entry ∷ recordOf u places)

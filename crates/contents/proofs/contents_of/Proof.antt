@@ -18,14 +18,8 @@ sprite-contents-requires c κs = search needs
 enum-known-register-3 : tie.Need-enum-known-register-3
 enum-known-register-3 c = search needs
 
-slice-aggregate-byte-at : tie.Need-slice-aggregate-byte-at
-slice-aggregate-byte-at c = search needs
-
-byte-at-requires-2 : tie.Need-byte-at-requires-2
-byte-at-requires-2 c κs = search needs
-
-kept-byte-requires : tie.Need-kept-byte-requires
-kept-byte-requires c κs = search needs
+byte-of-requires : tie.Need-byte-of-requires
+byte-of-requires c κs = search needs
 
 enum-known-register-4 : tie.Need-enum-known-register-4
 enum-known-register-4 c = search needs
@@ -61,7 +55,7 @@ returns-2 : tie.Need-returns-2
 returns-2 c = simp (c .before .before .before .register2 .given .1, c .sprite-contents .ensures)
 
 returns-3 : tie.Need-returns-3
-returns-3 c = simp (c .before .before .before .before .before .register3 .given .1, c .kept-byte .ensures, c .before .byte-at2 .ensures)
+returns-3 c = simp (c .before .before .before .register3 .given .1, c .byte-of .ensures)
 
 returns-4 : tie.Need-returns-4
 returns-4 c = simp (c .before .before .register4 .given .1, c .video-contents .ensures)
@@ -93,9 +87,7 @@ contents-of-spec =
     enum-known-register-2
     sprite-contents-requires
     enum-known-register-3
-    slice-aggregate-byte-at
-    byte-at-requires-2
-    kept-byte-requires
+    byte-of-requires
     enum-known-register-4
     video-contents-requires
     enum-told

@@ -1,5 +1,5 @@
--- `page::kept`: a write to DCSR is passed over, any other is pushed.
-use Rattle.page.proofs.Ways.{keeps-none, keeps-one}
+-- `page::kept`: a write to DCSR is passed over, any other has its entry.
+use Rattle.page.proofs.Ways.{keeps-one}
 use borrow.Author.Needs.{needs}
 use Rattle.page.proofs.kept.Statement.{statement}
 use Rattle.page.proofs.kept.Tie as tie
@@ -8,13 +8,13 @@ enum-told : tie.Need-enum-told
 enum-told c = search needs
 
 returns : tie.Need-returns
-returns c = keeps-none _ _ _ _ (c .enum-told .given .1)
+returns c = search needs
 
-push-requires : tie.Need-push-requires
-push-requires c κs = search needs
+pushed-requires : tie.Need-pushed-requires
+pushed-requires c κs = search needs
 
 returns-2 : tie.Need-returns-2
-returns-2 c = keeps-one _ _ _ _ (c .before .before .match .keys2) (c .push .ensures)
+returns-2 c = keeps-one _ _ _ _ (c .before .match .keys2) (c .pushed .ensures)
 
 pub kept-spec : {M : Type 1} → statement M
-kept-spec = tie.close (tie.spec enum-told returns push-requires returns-2)
+kept-spec = tie.close (tie.spec enum-told returns pushed-requires returns-2)
