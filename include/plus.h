@@ -3,7 +3,8 @@
  * The chip's state goes in by value and comes back in the answer; the library keeps nothing between calls. Every call but
  * plus_reset, plus_grey, plus_take_pack, plus_take_unpack and plus_take_record, which can't be refused, has an answer number. With
  * a refusal, that is any other than 0, the state and the buffers are as they were and every other number in the answer is 0, but
- * for the number of a bad line or of a bad record. Any contents of the structs are served, but a bool must be 0 or 1.
+ * for the number of a bad line or of a bad record; plus_replay, which is given no state, hands back the one after reset then. Any
+ * contents of the structs are served, but a bool must be 0 or 1.
  *
  * A buffer is a pointer, never NULL, and its length: PLUS_RAM bytes for RAM, PLUS_STORE for the sprite pixel store, PLUS_LINE for
  * a drawn line, PLUS_EXPORT for an export. A text and a take have any number of bytes, and the length of sound words and of
@@ -35,6 +36,9 @@ enum { PLUS_LONGEST_LINE = 14 };
 
 /* Bytes of a take: a record, and the trailer. */
 enum { PLUS_TAKE_RECORD = 8, PLUS_TAKE_TRAILER = 12 };
+
+/* How many counts plus_replay keeps: one for each number up to 23. */
+enum { PLUS_COUNTS = 24 };
 
 /* The numbers a call can answer. The lowest that applies is given. */
 enum {
@@ -232,6 +236,14 @@ typedef struct {
     size_t offset; /* where the first of them stands: the comment is all of the file before it */
 } PlusOpened;
 
+typedef struct {
+    PlusChip chip; /* after the last record */
+    uint8_t answer;
+    size_t bad;                   /* with 13 the first bad record, from 1 */
+    uint32_t lines;               /* lines stepped: the last record's line number */
+    uint32_t counts[PLUS_COUNTS]; /* how often each number refused a record's call; nothing is counted at 0 */
+} PlusReplayed;
+
 /* The calls. */
 
 /* The chip after reset, with nothing to undo. No answer number: nothing can refuse it. */
@@ -306,6 +318,12 @@ PlusOpened plus_take_open(const uint8_t *file, size_t file_length);
 /* The record of a take with a number, from 1. With any other number than 1 to the count, and in a file that plus_take_open answers
  * 11 or 12 for, the record that is all 0, which has no kind. No answer number. */
 PlusRecord plus_take_record(const uint8_t *file, size_t file_length, size_t number);
+
+/* Plays a take from reset, record by record: lines are stepped, with the processor off the 8255 and nothing drawn, until there are
+ * as many as the record's line number says, and its call is made. A call that is refused is counted and passed over. The whole take
+ * is tested before anything is played. The places are then those of the chip it gives. Answers 0, 1, 11, 12 or 13. */
+PlusReplayed plus_replay(const uint8_t *ram, size_t ram_length, uint8_t *store, size_t store_length, uint32_t places[PLUS_PLACES],
+                         const uint8_t *file, size_t file_length);
 
 #ifdef __cplusplus
 }

@@ -1,6 +1,6 @@
 /* Reads a sound list from text and prints it, forecasts it, then plays it on channel 0 up to its STOP and counts the same numbers: the
- * least cycles with the processor off the 8255, the most with PSG register writes on every line. A slip on the way is undone. The page
- * writes and the undo are written as a take, which is opened again. */
+ * least cycles with the processor off the 8255, the most with PSG register writes on every line. A slip on the way is undone. The calls
+ * before the lines are written as a take, which is opened and played again. */
 #include <stdio.h>
 #include <stdlib.h>
 #include <string.h>
@@ -13,7 +13,7 @@ static const char song[] = "LOAD 7 38\nPAUSE 2\nSTOP\n";
 
 static uint8_t ram[PLUS_RAM], store[PLUS_STORE];
 static uint32_t places[PLUS_PLACES]; /* the page writes that can be undone */
-static uint64_t records[16];         /* the calls noted, all of them on line 0 */
+static uint64_t records[32];         /* the calls noted, all of them on line 0 */
 static size_t noted;
 
 /* Ends the program at a refusal. */
@@ -59,36 +59,8 @@ static PlusChip undo(PlusChip chip) {
     return undone.chip;
 }
 
-/* The calls noted as a take, and what opening it says. */
-static void put_take(const char *comment) {
-    uint8_t file[256];
-    PlusWritten written = plus_take_write((const uint8_t *)comment, strlen(comment), records, noted, file, sizeof file);
-    served("take", written.answer);
-
-    PlusOpened opened = plus_take_open(file, written.size);
-    served("open", opened.answer);
-    PlusRecord last = plus_take_record(file, written.size, opened.count);
-    printf("take: %zu bytes of %.*s, %zu records, the last %u to %04Xh\n", written.size, (int)opened.offset, (const char *)file,
-           opened.count, last.value, last.address);
-}
-
-/* A chip whose channel 0 is about to play the list. */
-static PlusChip ready(void) {
-    PlusChip chip = plus_reset();
-    noted = 0;
-    for (size_t i = 0; i < sizeof unlock; i++)
-        chip = plus_write_bc(chip, unlock[i]).chip;
-    chip = plus_write_7f(chip, 0xB8).chip; /* maps the page in */
-    chip = poke(chip, 0x6C00, 0x00);       /* start address low, high, prescale, enable */
-    chip = poke(chip, 0x6C01, 0x80);
-    chip = poke(chip, 0x6C02, 0);
-    chip = undo(poke(chip, 0x6C02, 5)); /* another prescale would make the pause longer */
-    return poke(chip, 0x6C0F, 0x01);
-}
-
 /* Plays the list while the processor does one thing on every line. */
-static void play(const char *what, uint8_t access) {
-    PlusChip chip = ready();
+static void play(const char *what, PlusChip chip, uint8_t access) {
     unsigned long lines = 0, cycles = 0;
     while (chip.sound.channels[0].enabled) {
         PlusStepped line = plus_step(chip, ram, sizeof ram, access, PLUS_OFF, PLUS_OFF);
@@ -100,14 +72,48 @@ static void play(const char *what, uint8_t access) {
     printf("%s: lines %lu cycles %lu\n", what, lines, cycles);
 }
 
+/* The calls noted as a take, what opening it says, and the list played on the chip that it leads to. */
+static void put_take(const char *comment) {
+    uint8_t file[512];
+    PlusWritten written = plus_take_write((const uint8_t *)comment, strlen(comment), records, noted, file, sizeof file);
+    served("take", written.answer);
+
+    PlusOpened opened = plus_take_open(file, written.size);
+    served("open", opened.answer);
+    PlusRecord last = plus_take_record(file, written.size, opened.count);
+    printf("take: %zu bytes of %.*s, %zu records, the last %u to %04Xh\n", written.size, (int)opened.offset, (const char *)file,
+           opened.count, last.value, last.address);
+
+    PlusReplayed replayed = plus_replay(ram, sizeof ram, store, sizeof store, places, file, written.size);
+    served("replay", replayed.answer);
+    play("replayed", replayed.chip, PLUS_OFF);
+}
+
+/* A chip whose channel 0 is about to play the list. */
+static PlusChip ready(void) {
+    PlusChip chip = plus_reset();
+    noted = 0;
+    for (size_t i = 0; i < sizeof unlock; i++) {
+        chip = plus_write_bc(chip, unlock[i]).chip;
+        note(PLUS_TAKE_WRITE_BC, 0, unlock[i]);
+    }
+    chip = plus_write_7f(chip, 0xB8).chip; /* maps the page in */
+    note(PLUS_TAKE_WRITE_7F, 0, 0xB8);
+    chip = poke(chip, 0x6C00, 0x00);       /* start address low, high, prescale, enable */
+    chip = poke(chip, 0x6C01, 0x80);
+    chip = poke(chip, 0x6C02, 0);
+    chip = undo(poke(chip, 0x6C02, 5)); /* another prescale would make the pause longer */
+    return poke(chip, 0x6C0F, 0x01);
+}
+
 int main(void) {
     put_list(song, 0x8000);
     PlusLength told = plus_forecast(ram, sizeof ram, 0x8000, 0);
     served("forecast", told.answer);
     printf("forecast: lines %llu cycles %llu to %llu, %u bytes at %04Xh\n", (unsigned long long)told.lines,
            (unsigned long long)told.cycles, (unsigned long long)told.most, told.length, told.offset);
-    play("played", PLUS_OFF);
-    play("played beside PSG writes", PLUS_PSG_WRITE);
+    play("played", ready(), PLUS_OFF);
+    play("played beside PSG writes", ready(), PLUS_PSG_WRITE);
     put_take("a song");
     return 0;
 }

@@ -5,6 +5,7 @@ use chip::Chip;
 use listing::Printed;
 use listing::ReadBack;
 use page::ByteRead;
+use replay::Replayed;
 use sound::Accesses;
 use sound::Did;
 use sound::Entry;
@@ -28,6 +29,7 @@ ghost use Rattle.listing.specs.Read.{Reading};
 ghost use Rattle.take.specs.Record.{packed, unpacked};
 ghost use Rattle.take.specs.Write.{Writing};
 ghost use Rattle.take.specs.Open.{Opening, recordAt};
+ghost use Rattle.replay.specs.Contract.{Replays};
 ghost use Rattle.plus.specs.Report.{accessesBy, kindNumber, lowOf, kindsOf, lowsOf};
 ghost use Rattle.plus.specs.Promises.{StepReported, LengthTold};
 
@@ -304,4 +306,17 @@ pub extern "C" fn plus_take_record(file: &[u8], number: usize) -> Record
     ensures { λ r. ⌜ r ≡ recordAt (now (file .entry)) number ⌝ }
 {
     take::record_at(file, number)
+}
+
+// Plays a take from reset.
+#[no_mangle]
+pub extern "C" fn plus_replay(
+    ram: &[u8],
+    store: &mut [u8],
+    places: &mut [u32; 256],
+    file: &[u8],
+) -> Replayed
+    ensures { λ r. ⌜ Replays (now (ram .entry)) (now (store .entry)) (now (places .entry)) (now (file .entry)) (now (store .exit)) (now (places .exit)) r ⌝ }
+{
+    replay::replay(ram, store, places, file)
 }

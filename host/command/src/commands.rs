@@ -5,6 +5,7 @@ mod forecast;
 mod frame;
 mod install;
 mod list;
+mod play;
 mod read;
 mod records;
 mod run;
@@ -42,6 +43,7 @@ pub const COMMANDS: &[Command] = &[
     run::COMMAND,
     take::COMMAND,
     records::COMMAND,
+    play::COMMAND,
     frame::COMMAND,
     export::COMMAND,
     install::COMMAND,

@@ -52,10 +52,14 @@ fn drawn(f: &mut fmt::Formatter, line: &[u8]) -> fmt::Result {
     write!(f, "{} {text}", answer::DONE)
 }
 
-/// Two hexadecimal digits a byte.
+/// The answer, and the bytes.
 fn exported(f: &mut fmt::Formatter, out: &[u8]) -> fmt::Result {
-    write!(f, "{} ", answer::DONE)?;
-    out.iter().try_for_each(|byte| write!(f, "{byte:02x}"))
+    write!(f, "{} {}", answer::DONE, digits(out))
+}
+
+/// Two hexadecimal digits a byte.
+pub fn digits(bytes: &[u8]) -> String {
+    bytes.iter().map(|byte| format!("{byte:02x}")).collect()
 }
 
 /// The answer, lines, the least cycles, how many bytes the list has, and the most

@@ -10,6 +10,7 @@ mod listing;
 mod lock;
 mod page;
 mod ports;
+mod replay;
 mod sound;
 mod take;
 mod undo;
@@ -18,6 +19,7 @@ pub use draw::byte_address;
 pub use forecast::{forecast, list, Length};
 pub use listing::{print, read};
 pub use page::grey;
+pub use replay::{replay, Replay};
 pub use take::{take_open, take_record, take_write, Record};
 
 use lock::History;

@@ -6,6 +6,7 @@ mod call;
 mod differ;
 pub mod listing;
 mod phrases;
+pub mod replay;
 mod script;
 pub mod take;
 

@@ -9,6 +9,7 @@ mod listing;
 mod page;
 mod ports;
 mod processor;
+mod replay;
 mod sound;
 mod take;
 mod undo;
@@ -35,6 +36,10 @@ pub use ports::{LockingUnmaps, LostZero, MappedAt10, UnlockedAtCd, WholeR4};
 pub use processor::{
     AccessOfChannel1, AccessesIgnored, LeastIsMost, LoadLost, MostIsLeast, MostOnce,
     MostThoughRefused, OnTakesTwo, OthersDisturbed, PauseDisturbed, SatOutDisturbed,
+};
+pub use replay::{
+    CountedTogether, FirstRecordSkipped, LinesAfterTheCall, NoLinesInModeThree, NotFromReset,
+    OneLineMore, PlayedUpToBad, RefusedCallEnds, RefusedNotCounted, TakeBeforeLengths,
 };
 pub use sound::{
     ControlAsNothing, EightRegisters, HighestChannelFirst, ListWithoutStop, LoopInStopWord,

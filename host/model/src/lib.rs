@@ -6,10 +6,12 @@
 //!   state put in and read out. Every test is written over it.
 //! - [`under_test`] has the few moves that most tests begin with, and the macro
 //!   that runs a test on both.
+//! - [`by_hand`] makes the calls of a take one by one.
 //! - [`fault`] has cores that go wrong in one rule, to see that tests fail.
 //! - [`compare`] makes random calls on both and compares all they give.
 //! - [`random`] makes random bytes, lists and states.
 
+pub mod by_hand;
 pub mod chip;
 pub mod compare;
 pub mod fault;

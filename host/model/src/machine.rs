@@ -6,10 +6,33 @@ mod convert;
 
 use crate::chip::{self, Did, Kind, Model};
 use plus::listing::{self, Printed, ReadBack};
-use plus::take::{self, Opened, Record, Written};
+use plus::take::{self, Opened, Record, Replayed, Written, COUNTS};
 use plus::{kind, Access, Chip, Editing, Length, Report, State};
 use std::marker::PhantomData;
 use std::mem;
+
+/// What playing a take gives, on any machine.
+#[derive(Clone, Debug)]
+pub struct Replay<M> {
+    pub answer: u8,
+    pub bad: usize,
+    pub chip: M,
+    pub lines: u32,
+    pub counts: [u32; COUNTS],
+}
+
+impl<M> Replay<M> {
+    /// The core's, with its chip in a machine.
+    fn of(core: Replayed, machine: impl FnOnce(Chip) -> M) -> Replay<M> {
+        Replay {
+            answer: core.answer,
+            bad: core.bad,
+            chip: machine(core.chip),
+            lines: core.lines,
+            counts: core.counts,
+        }
+    }
+}
 
 /// Makes four things of one list of the calls, those on a chip and then those
 /// that take none: the trait of all machines, the core as such a machine, what a
@@ -24,9 +47,12 @@ macro_rules! calls {
         )*}
     ) => {
         /// A chip under test.
-        pub trait Machine {
+        pub trait Machine: Sized {
             /// The chip after reset.
             fn new() -> Self;
+
+            /// A take played from reset.
+            fn replay(ram: &[u8], store: &mut [u8], file: &[u8]) -> Replay<Self>;
 
             /// All of its state but the record of page writes, which is empty here.
             fn state(&self) -> State;
@@ -46,6 +72,10 @@ macro_rules! calls {
         impl Machine for Chip {
             fn new() -> Chip {
                 Chip::new()
+            }
+
+            fn replay(ram: &[u8], store: &mut [u8], file: &[u8]) -> Replay<Chip> {
+                Replay::of(take::replay(ram, store, file), |chip| chip)
             }
 
             fn state(&self) -> State {
@@ -71,6 +101,11 @@ macro_rules! calls {
 
         /// A fault: the calls that it spoils. All others are the core's.
         pub trait Fault {
+            /// A take played from reset.
+            fn replay(ram: &[u8], store: &mut [u8], file: &[u8]) -> Replayed {
+                take::replay(ram, store, file)
+            }
+
             $($(#[$about])* fn $call(chip: &mut Chip, $($name: $type),*) -> $answer {
                 chip.$call($($name),*)
             })*
@@ -83,6 +118,10 @@ macro_rules! calls {
         impl<F: Fault> Machine for Faulty<F> {
             fn new() -> Faulty<F> {
                 Faulty(Chip::new(), PhantomData)
+            }
+
+            fn replay(ram: &[u8], store: &mut [u8], file: &[u8]) -> Replay<Faulty<F>> {
+                Replay::of(F::replay(ram, store, file), |chip| Faulty(chip, PhantomData))
             }
 
             fn state(&self) -> State {
@@ -198,6 +237,23 @@ fn put_beside_record(chip: &mut Chip, state: State) {
 impl Machine for Model {
     fn new() -> Model {
         Model::new()
+    }
+
+    fn replay(ram: &[u8], store: &mut [u8], file: &[u8]) -> Replay<Model> {
+        let chip::Replay {
+            answer,
+            bad,
+            chip,
+            lines,
+            counts,
+        } = chip::replay(ram, store, file);
+        Replay {
+            answer,
+            bad,
+            chip,
+            lines,
+            counts,
+        }
     }
 
     fn state(&self) -> State {

@@ -1,7 +1,7 @@
 //! The core against the model over a million random calls, and that the
 //! comparison can fail.
 
-use model::compare::{compare, listing, take, Call};
+use model::compare::{compare, listing, replay, take, Call};
 use model::machine::{Fault, Faulty};
 use model::{fault, Model};
 
@@ -224,4 +224,41 @@ order_caught! {
     twelve_before_eleven: MetBeforeLetters,
     thirteen_before_twelve: RecordsBeforeMet,
     fourteen_before_thirteen: RoomBeforeRecords
+}
+
+/// Sessions made by hand, and the takes of their calls.
+#[test]
+fn takes_play_as_by_hand() {
+    let tally = match replay::sessions::<Model>(10_000, 1) {
+        Ok(tally) => tally,
+        Err(difference) => panic!("{difference}"),
+    };
+    println!("{tally:?}");
+    assert!(tally.takes >= 20_000, "{tally:?}");
+    for (number, least) in [(0, 20_000), (1, 1_000), (11, 10), (12, 1_000), (13, 1_000)] {
+        assert!(tally.answers[number] >= least, "{tally:?}");
+    }
+    // A record's call can be refused with these, and with no other.
+    for (number, times) in tally.counts.into_iter().enumerate() {
+        match number {
+            2 | 3 | 5 | 9 | 10 => assert!(times >= 1_000, "{tally:?}"),
+            _ => assert_eq!(times, 0, "{tally:?}"),
+        }
+    }
+}
+
+/// A test for each fault of a replay: it is seen.
+macro_rules! replay_caught {
+    ($($fault:ident),+) => {$(
+        #[test]
+        #[allow(non_snake_case)]
+        fn $fault() {
+            assert!(replay::sessions::<Faulty<fault::$fault>>(10_000, 1).is_err());
+        }
+    )+};
+}
+
+replay_caught! {
+    CountedTogether, FirstRecordSkipped, LinesAfterTheCall, NoLinesInModeThree, NotFromReset,
+    OneLineMore, PlayedUpToBad, RefusedCallEnds, RefusedNotCounted, TakeBeforeLengths
 }

@@ -1,96 +1,26 @@
 //! A recorder: what it notes, and that the calls noted lead to the same chip.
 
-use model::compare::{Buffers, Call, Script};
+use model::by_hand::ByHand;
+use model::compare::replay::{in_a_take, note};
+use model::compare::Script;
 use plus::take::{file_of, kind, Noted, Record, Recorder, Take};
-use plus::{answer, Access, Chip, RAM, STORE, UNLOCK};
+use plus::{answer, Access, Chip, State, RAM, STORE, UNLOCK};
 
 /// The processor is off the 8255: a take says nothing of it, and the state does
 /// not depend on it.
 const OFF: [Access; 3] = [Access::Off; 3];
 
-/// A chip and its pixel store.
-struct Played {
-    chip: Chip,
-    store: Vec<u8>,
-    line: u32,
+/// All that a call can change.
+fn shown(played: &ByHand<Chip>) -> (State, Vec<(u16, u8)>, Vec<u8>) {
+    let record = played.chip.record().collect();
+    (*played.chip, record, played.store.to_vec())
 }
 
-impl Played {
-    fn new(store: &[u8]) -> Played {
-        Played {
-            chip: Chip::new(),
-            store: store.to_vec(),
-            line: 0,
-        }
-    }
-
-    fn step_to(&mut self, line: u32, ram: &[u8]) {
-        while self.line < line {
-            assert_eq!(self.chip.step(ram, OFF).0, answer::DONE);
-            self.line += 1;
-        }
-    }
-
-    /// Makes a record's call on its line. Whether it was served and changed
-    /// anything.
-    fn make(&mut self, record: Record, ram: &[u8]) -> (bool, bool) {
-        self.step_to(record.line, ram);
-        let before = self.shown();
-        let Record { address, value, .. } = record;
-        let answer = match record.kind {
-            kind::WRITE_BC => self.chip.write_bc(value),
-            kind::WRITE_BD => self.chip.write_bd(value),
-            kind::WRITE_7F => self.chip.write_7f(value),
-            kind::PAGE_WRITE => self.chip.page_write(&mut self.store, address, value),
-            kind::ACKNOWLEDGE => self.chip.acknowledge().0,
-            kind::UNDO => self.chip.undo(&mut self.store),
-            other => panic!("kind {other}"),
-        };
-        (answer == answer::DONE, self.shown() != before)
-    }
-
-    /// All that a call can change.
-    fn shown(&self) -> (plus::State, Vec<(u16, u8)>, Vec<u8>) {
-        let record = self.chip.record().collect();
-        (*self.chip, record, self.store.clone())
-    }
-}
-
-/// Makes a script's call on a recorder; whether it was a served line step.
-fn make(call: Call, recorder: &mut Recorder, lent: &mut Buffers) -> bool {
-    match call {
-        Call::WriteBc(byte) => recorder.write_bc(byte),
-        Call::WriteBd(byte) => recorder.write_bd(byte),
-        Call::Write7f(byte) => recorder.write_7f(byte),
-        Call::PageWrite {
-            store,
-            address,
-            byte,
-        } => recorder.page_write(&mut lent.store[..store], address, byte),
-        Call::PageRead {
-            store,
-            address,
-            bus,
-        } => recorder.page_read(&lent.store[..store], address, bus).0,
-        Call::Undo { store } => recorder.undo(&mut lent.store[..store]),
-        Call::Acknowledge => recorder.acknowledge().0,
-        Call::Step { ram, accesses } => {
-            return recorder.step(&lent.ram[..ram], accesses).0 == answer::DONE
-        }
-        _ => 0,
-    };
-    false
-}
-
-/// Scripts from reset with every call but those that reset or change RAM.
+/// Scripts from reset.
 fn scripts() -> impl Iterator<Item = Script> {
     (1..600)
         .map(Script::new)
         .filter(|script| script.start.is_none())
-}
-
-fn kept(call: &Call) -> bool {
-    !matches!(call, Call::Reset | Call::Ram { .. })
 }
 
 /// The calls noted, made by hand, lead to the same chip; each was served, and in
@@ -102,23 +32,25 @@ fn the_calls_noted_lead_to_the_same_chip() {
         for (mode, noted) in [Noted::Changes, Noted::Served].into_iter().enumerate() {
             let (mut recorder, mut lent) = (Recorder::new(noted), script.lent.clone());
             let mut lines = 0;
-            for &call in script.calls.iter().filter(|call| kept(call)) {
-                lines += u32::from(make(call, &mut recorder, &mut lent));
+            for &call in script.calls.iter().filter(|call| in_a_take(call)) {
+                lines += u32::from(note(call, &mut recorder, &mut lent));
             }
             let records = recorder.records().unwrap();
             counted[mode] += records.len();
 
-            let (store, ram) = (&script.lent.store[..STORE], &script.lent.ram[..RAM]);
-            let mut played = Played::new(store);
+            let mut store = script.lent.store[..STORE].to_vec();
+            let mut played = ByHand::<Chip>::new(&script.lent.ram[..RAM], &mut store);
             for &record in records {
-                let (served, changed) = played.make(record, ram);
-                assert!(served, "{record:?}");
+                played.step_to(record.line);
+                let before = shown(&played);
+                assert_eq!(played.call(record), answer::DONE, "{record:?}");
+                let changed = shown(&played) != before;
                 assert!(changed || noted == Noted::Served, "{record:?}");
             }
-            played.step_to(lines, ram);
+            played.step_to(lines);
             let record: Vec<(u16, u8)> = recorder.record().collect();
             let end = (**recorder, record, lent.store[..STORE].to_vec());
-            assert!(played.shown() == end, "seed {}", script.seed);
+            assert!(shown(&played) == end, "seed {}", script.seed);
         }
     }
     // Some calls left everything as it was.
@@ -131,8 +63,8 @@ fn the_calls_noted_lead_to_the_same_chip() {
 fn what_is_noted_is_written_and_opened() {
     for script in scripts() {
         let (mut recorder, mut lent) = (Recorder::new(Noted::Served), script.lent.clone());
-        for &call in script.calls.iter().filter(|call| kept(call)) {
-            make(call, &mut recorder, &mut lent);
+        for &call in script.calls.iter().filter(|call| in_a_take(call)) {
+            note(call, &mut recorder, &mut lent);
         }
         let records = recorder.records().unwrap();
         let file = file_of(b"from a script", records).unwrap();

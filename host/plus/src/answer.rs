@@ -4,7 +4,7 @@
 pub const DONE: u8 = 0;
 
 /// A lent buffer has the wrong length: page read and write, undo, export, line
-/// step, drawing, forecast.
+/// step, drawing, forecast, playing a take.
 pub const WRONG_LENGTH: u8 = 1;
 
 /// The address is not of the page, or the page is not mapped: page read and
@@ -36,15 +36,15 @@ pub const CONVERTER_THERE: u8 = 9;
 /// No page write is left to take back: undo.
 pub const NOTHING_TO_UNDO: u8 = 10;
 
-/// The file is shorter than a trailer, or ends with other letters: opening a
-/// take.
+/// The file is shorter than a trailer, or ends with other letters: opening and
+/// playing a take.
 pub const NO_TRAILER: u8 = 11;
 
 /// The records don't end where the trailer begins, by its offset and count:
-/// opening a take.
+/// opening and playing a take.
 pub const NOT_MET: u8 = 12;
 
-/// A record is bad: writing and opening a take.
+/// A record is bad: writing, opening and playing a take.
 pub const BAD_RECORD: u8 = 13;
 
 /// The buffer has no room for the take, or its count or its offset has none in 4

@@ -28,10 +28,14 @@ pub struct Report {
 impl Chip {
     /// The chip after reset.
     pub fn new() -> Chip {
-        let state = unsafe { ffi::plus_reset() };
+        Chip::of(unsafe { ffi::plus_reset() }, [0; PLACES])
+    }
+
+    /// A state with the places of its record.
+    pub(crate) fn of(state: State, places: [u32; PLACES]) -> Chip {
         Chip {
             state: Aligned(state),
-            places: [0; PLACES],
+            places,
         }
     }
 

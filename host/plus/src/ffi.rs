@@ -2,7 +2,7 @@
 
 use crate::listing::{Printed, ReadBack};
 use crate::state::Aligned;
-use crate::take::{Opened, Record, Written};
+use crate::take::{Opened, Record, Written, COUNTS};
 use crate::{Access, Length, State, PLACES};
 
 #[repr(C)]
@@ -23,6 +23,15 @@ pub(crate) struct ByteRead {
     pub chip: State,
     pub answer: u8,
     pub byte: u8,
+}
+
+#[repr(C)]
+pub(crate) struct Replayed {
+    pub chip: State,
+    pub answer: u8,
+    pub bad: usize,
+    pub lines: u32,
+    pub counts: [u32; COUNTS],
 }
 
 #[repr(C)]
@@ -103,6 +112,15 @@ extern "C" {
     ) -> Written;
     pub(crate) fn plus_take_open(file: *const u8, file_length: usize) -> Opened;
     pub(crate) fn plus_take_record(file: *const u8, file_length: usize, number: usize) -> Record;
+    pub(crate) fn plus_replay(
+        ram: *const u8,
+        ram_length: usize,
+        store: *mut u8,
+        store_length: usize,
+        places: &mut [u32; PLACES],
+        file: *const u8,
+        file_length: usize,
+    ) -> Replayed;
     pub(crate) fn plus_draw(
         chip: Aligned,
         ram: *const u8,

@@ -11,8 +11,8 @@
 //! number of a bad line or a bad record.
 //!
 //! [`listing`] prints a sound list as text and reads such a text back. [`take`]
-//! writes and opens takes, and has a [`Recorder`](take::Recorder) that makes one of
-//! the calls on a chip.
+//! writes, opens and plays takes, and has a [`Recorder`](take::Recorder) that makes
+//! one of the calls on a chip.
 //!
 //! A sound list forecast, then played on channel 0 up to its STOP:
 //!

@@ -2,8 +2,8 @@
 //!
 //! A file is a comment of any bytes, the records, and a trailer. A [`Record`] is
 //! one call with its line number, that is how many line steps were made from the
-//! reset up to it. A [`Recorder`] makes the records; [`file_of`] writes them and
-//! [`Take::open`] opens such a file.
+//! reset up to it. A [`Recorder`] makes the records; [`file_of`] writes them,
+//! [`Take::open`] opens such a file, and [`replay`] plays it.
 //!
 //! ```
 //! use plus::take::{file_of, kind, Record, Refused, Take};
@@ -29,8 +29,10 @@
 
 pub mod kind;
 mod recorder;
+mod replay;
 
 pub use recorder::{Noted, Recorder, TooLate};
+pub use replay::{replay, Replayed, COUNTS};
 
 use crate::{answer, ffi};
 use std::error::Error;
@@ -181,10 +183,10 @@ impl<'a> Take<'a> {
     }
 }
 
-/// A take that is not written or not opened.
+/// A take that is not written, not opened or not played.
 #[derive(Clone, Copy, Debug, PartialEq, Eq)]
 pub struct Refused {
-    /// The number answered: 11 to 14.
+    /// The number answered: 11 to 14, or 1.
     pub answer: u8,
     /// With 13 the number of the first bad record, from 1, else 0.
     pub record: usize,

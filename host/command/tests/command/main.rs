@@ -6,6 +6,7 @@ mod forecast;
 mod frame;
 mod install;
 mod list;
+mod play;
 mod read;
 mod run;
 mod take;

@@ -5,13 +5,14 @@ use std::ffi::OsStr;
 use std::os::unix::ffi::OsStrExt;
 
 /// Each command with its arguments, and its option last if it has one.
-const COMMANDS: [(&str, &[&str]); 9] = [
+const COMMANDS: [(&str, &[&str]); 10] = [
     ("forecast", &["FILE"]),
     ("list", &["FILE", "[START]"]),
     ("read", &["TEXT", "OUT"]),
     ("run", &["FILE", "[--take OUT]"]),
     ("take", &["RECORDS", "OUT", "[COMMENT]"]),
     ("records", &["TAKE"]),
+    ("play", &["RAM", "STORE", "TAKE", "[AFTER]"]),
     ("frame", &["FILE", "OUT.png"]),
     ("export", &["FILE", "OUT"]),
     ("install", &["PREFIX"]),
@@ -20,16 +21,17 @@ const COMMANDS: [(&str, &[&str]); 9] = [
 const OVERVIEW: &str = "\
 usage: plus COMMAND ...
 
-  forecast FILE                how long the sound list of a RAM image plays
-  list FILE [START]            a sound list as text, a line a word
-  read TEXT OUT                the words of such a text, put into a file
-  run FILE [--take OUT]        what each record of a scene answers
-  take RECORDS OUT [COMMENT]   a take: calls with their lines, put into a file
-  records TAKE                 the records of such a file
-  frame FILE OUT.png           a picture of the frame that a scene leads to
-  export FILE OUT              what the registers hold at the end of a scene
-  install PREFIX               header, library, pkg-config file and this program
-  help [COMMAND]               this, or all about one command
+  forecast FILE                 how long the sound list of a RAM image plays
+  list FILE [START]             a sound list as text, a line a word
+  read TEXT OUT                 the words of such a text, put into a file
+  run FILE [--take OUT]         what each record of a scene answers
+  take RECORDS OUT [COMMENT]    a take: calls with their lines, put into a file
+  records TAKE                  the records of such a file
+  play RAM STORE TAKE [AFTER]   the chip that such a file's calls lead to
+  frame FILE OUT.png            a picture of the frame that a scene leads to
+  export FILE OUT               what the registers hold at the end of a scene
+  install PREFIX                header, library, pkg-config file and this program
+  help [COMMAND]                this, or all about one command
 ";
 
 fn usage(command: &str, arguments: &[&str]) -> String {
@@ -90,7 +92,7 @@ fn missing_and_extra_arguments() {
         };
         for (given, argument) in arguments.iter().enumerate() {
             if !argument.starts_with('[') {
-                fails(&["x"; 2][..given], &format!("{argument} is missing"));
+                fails(&["x"; 3][..given], &format!("{argument} is missing"));
             }
         }
         let option = |argument: &&&str| argument.starts_with("[--");

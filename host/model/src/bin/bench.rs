@@ -8,8 +8,8 @@ use model::chip::{self, Model};
 use model::random::{any_records, mixed_word, Random};
 use model::under_test::UnderTest;
 use plus::listing::{self, LONGEST_LINE};
-use plus::take;
-use plus::{Chip, EXPORT, LINE, PLACES, RAM, STORE};
+use plus::take::{self, kind, Record};
+use plus::{Chip, EXPORT, LINE, PLACES, RAM, STORE, UNLOCK};
 use std::env;
 use std::hint::black_box;
 use std::process::ExitCode;
@@ -30,7 +30,14 @@ enum Work {
     Read,
     TakeWrite,
     TakeOpen,
+    Replay,
+    ByHand,
 }
+
+/// The take that is played enables the channels again and again, since they come to
+/// a STOP: how often, and for how many lines.
+const STRETCHES: u32 = 100;
+const STRETCH: u32 = 10_000;
 
 /// A row of the table: how many calls one timed run makes, how many sprites are
 /// on every line, and the screen mode.
@@ -55,7 +62,7 @@ const fn case(name: &'static str, work: Work, count: usize, sprites: u16, mode: 
     }
 }
 
-const CASES: [Case; 18] = [
+const CASES: [Case; 20] = [
     case("line step", Work::Step, 100_000, 0, 1),
     case("page write", Work::PageWrite, 100_000, 0, 1),
     case("page read", Work::PageRead, 100_000, 0, 1),
@@ -77,11 +84,13 @@ const CASES: [Case; 18] = [
     case("read, 30,000 words", Work::Read, 20, 0, 1),
     case("write, 100,000 records", Work::TakeWrite, 20, 0, 1),
     case("open, 100,000 records", Work::TakeOpen, 20, 0, 1),
+    case("replay, 1,000,000 lines", Work::Replay, 1, 0, 1),
+    case("the same calls by hand", Work::ByHand, 1, 0, 1),
 ];
 
 /// What both are given: RAM with a screen and a list that never ends before its
 /// last word, a store of opaque pixels, words of all kinds and their text, records
-/// of all kinds and their take, and room for these.
+/// of all kinds and their take, room for these, and a take to be played.
 struct Lent {
     ram: Vec<u8>,
     store: Vec<u8>,
@@ -94,6 +103,7 @@ struct Lent {
     records: Vec<u64>,
     take: Vec<u8>,
     take_room: Vec<u8>,
+    played: Vec<u8>,
 }
 
 fn lent() -> Lent {
@@ -122,7 +132,25 @@ fn lent() -> Lent {
         records: records.into_iter().map(take::pack).collect(),
         take_room: vec![0; take.len()],
         take,
+        played: played(),
     }
+}
+
+/// A take that has all channels play, and ends after its lines.
+fn played() -> Vec<u8> {
+    let record = |line, kind, address, value| Record {
+        line,
+        kind,
+        address,
+        value,
+    };
+    let mut records: Vec<Record> = UNLOCK.map(|byte| record(0, kind::WRITE_BC, 0, byte)).into();
+    records.push(record(0, kind::WRITE_7F, 0, 0xB8));
+    for n in 0..STRETCHES {
+        records.push(record(STRETCH * n, kind::PAGE_WRITE, 0x6C0F, 7));
+    }
+    records.push(record(STRETCH * STRETCHES, kind::WRITE_7F, 0, 0x80));
+    take::file_of(b"", &records).expect("records are good")
 }
 
 /// 40 characters, 39 rows, the case's mode and sprites, all channels on, and a
@@ -149,7 +177,7 @@ fn set_up<M: UnderTest>(case: &Case) -> M {
 macro_rules! calls_of {
     (
         $run:ident, $machine:ident, $forecast:path, $print:path, $read:path, $write:path,
-        $open:path, $off:path
+        $open:path, $replay:path, $off:path
     ) => {
         fn $run(case: &Case, count: usize) -> Duration {
             let (mut machine, mut lent) = (set_up::<$machine>(case), lent());
@@ -202,6 +230,23 @@ macro_rules! calls_of {
                 Work::TakeOpen => repeat(count, |_| {
                     black_box($open(&lent.take));
                 }),
+                Work::Replay => repeat(count, |_| {
+                    black_box($replay(&lent.ram, &mut lent.store, &lent.played));
+                }),
+                Work::ByHand => repeat(count, |_| {
+                    machine = $machine::new();
+                    for byte in UNLOCK {
+                        machine.write_bc(byte);
+                    }
+                    machine.write_7f(0xB8);
+                    for _ in 0..STRETCHES {
+                        machine.page_write(&mut lent.store, 0x6C0F, 7);
+                        for _ in 0..STRETCH {
+                            black_box(machine.step(&lent.ram, [$off; 3]));
+                        }
+                    }
+                    machine.write_7f(0x80);
+                }),
             }
             black_box((
                 &machine,
@@ -224,6 +269,7 @@ calls_of!(
     listing::read,
     take::write,
     take::open,
+    take::replay,
     plus::Access::Off
 );
 calls_of!(
@@ -234,6 +280,7 @@ calls_of!(
     chip::read,
     chip::take_write,
     chip::take_open,
+    chip::replay,
     chip::Access::Off
 );
 

@@ -1,12 +1,13 @@
 //! Compares the core with the model: `compare [CALLS [SEED]]`, by default one
 //! million calls from seed 1. Every word is printed and read too, a text for every
-//! five calls, and a take for every ten.
+//! five calls, and a take for every ten; a session is recorded and its takes played
+//! for every hundred.
 
 use std::env;
 use std::process::ExitCode;
 use std::time::Instant;
 
-use model::compare::{compare, listing, take};
+use model::compare::{compare, listing, replay, take};
 use model::Model;
 
 fn main() -> ExitCode {
@@ -49,5 +50,11 @@ fn compared(count: u64, seed: u64) -> Result<(), String> {
         let times = short.opened[number] + takes.opened[number];
         println!("{name}: {times} of their files and of short ones");
     }
+    let played = replay::sessions::<Model>(count / 100, seed)?;
+    let (takes, lines) = (played.takes, played.lines);
+    println!(
+        "{takes} takes of {} sessions played, {lines} lines",
+        count / 100
+    );
     Ok(())
 }

@@ -104,15 +104,22 @@ fn parts(file: &[u8]) -> Result<(&[u8], Vec<Record>), u8> {
     Ok((comment, records.chunks(8).map(Record::from_bytes).collect()))
 }
 
+/// The comment and the records of a file, or the number that it is refused with and
+/// the number of the first bad record.
+pub(super) fn opened(file: &[u8]) -> Result<(&[u8], Vec<Record>), (u8, usize)> {
+    let (comment, records) = parts(file).map_err(|refusal| (refusal, 0))?;
+    match first_bad(&records) {
+        Some(bad) => Err((answer::BAD_RECORD, bad)),
+        None => Ok((comment, records)),
+    }
+}
+
 /// Opens a take: the answer, the number of the first bad record, the record count
 /// and the offset of the first record.
 pub fn take_open(file: &[u8]) -> (u8, usize, usize, usize) {
-    match parts(file) {
-        Err(refusal) => (refusal, 0, 0, 0),
-        Ok((comment, records)) => match first_bad(&records) {
-            Some(bad) => (answer::BAD_RECORD, bad, 0, 0),
-            None => (answer::DONE, 0, records.len(), comment.len()),
-        },
+    match opened(file) {
+        Err((refusal, bad)) => (refusal, bad, 0, 0),
+        Ok((comment, records)) => (answer::DONE, 0, records.len(), comment.len()),
     }
 }
 

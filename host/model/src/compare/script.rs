@@ -61,7 +61,7 @@ fn any_start(random: &mut Random) -> State {
 }
 
 /// RAM of zeros, of words without a STOP, or of any bytes.
-fn buffers(r: &mut Random) -> Buffers {
+pub(super) fn buffers(r: &mut Random) -> Buffers {
     let mut lent = Buffers {
         ram: vec![0; RAM + SPARE],
         store: vec![0; STORE + SPARE],

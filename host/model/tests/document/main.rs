@@ -18,6 +18,7 @@ mod played;
 mod ports;
 mod processor;
 mod registers;
+mod replay;
 mod reset;
 mod screen;
 mod sound;

@@ -1,0 +1,8 @@
+-- Laws of a take played.
+pub mod Lines
+pub mod Asks
+pub mod Counts
+pub mod Playing
+pub mod Ways
+pub mod ByHand
+pub mod Possible

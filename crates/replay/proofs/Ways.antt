@@ -1,0 +1,83 @@
+-- The ways out of replay.
+use native.Mathlib.Omega.{arith}
+use borrow.Author.Tests.{eq-eqb, ne-eqb}
+use mathlib.Core.Path.{_≡_, sym, _∙_, ap}
+use mathlib.Core.List.{List}
+use Prim.Native.Nat.{ℕ}
+use lib.Dec.{eqb}
+use lib.ListN.{length}
+use Rattle.words.specs.Answers.{badRecord}
+use Rattle.words.specs.Choice.{if}
+use Rattle.take.specs.Record.{firstBad}
+use Rattle.take.specs.Open.{openAnswer, recordsOf, Opening}
+use Rattle.replay.specs.declared.Player.{Player}
+use Rattle.replay.specs.declared.Replayed.{Replayed}
+use Rattle.replay.specs.Replay.{Played, fresh, played}
+use Rattle.replay.specs.Contract.{replayAnswer, outcome, Replays}
+use Rattle.replay.specs.Parts.{playedBy, Begun, Tells}
+
+-- the answer by the lengths
+module _ (ram store file : List ℕ) where
+  pub ram-wrong : (length ram ≡ 65536 → ⊥) → replayAnswer ram store file ≡ 1
+  unfolding replayAnswer
+  ram-wrong n = simp (ne-eqb (length ram) 65536 n)
+
+  module _ (e : length ram ≡ 65536) where
+    pub store-wrong : (length store ≡ 4096 → ⊥) → replayAnswer ram store file ≡ 1
+    unfolding replayAnswer
+    store-wrong n = simp (eq-eqb (length ram) 65536 e, ne-eqb (length store) 4096 n)
+
+    pub lengths-right : length store ≡ 4096 → replayAnswer ram store file ≡ openAnswer file
+    unfolding replayAnswer
+    lengths-right f = simp (eq-eqb (length ram) 65536 e, eq-eqb (length store) 4096 f)
+
+module _ {ram store places file : List ℕ} {p : Player} {r : Replayed} where
+  -- refused: nothing is played
+  refused :
+      {number first : ℕ} → number ≡ replayAnswer ram store file → (number ≡ 0 → ⊥) →
+      first ≡ if (eqb (replayAnswer ram store file) badRecord) (firstBad (recordsOf file)) 0 →
+      Begun (p .chip) (p .lines) (p .counts) → Tells number first p r → Replays ram store places file store places r
+  unfolding outcome
+  refused e n f b t =
+      let z = ne-eqb (replayAnswer ram store file) 0 (λ d. n (e ∙ d)) in
+      record {
+        answer = t .answer ∙ e;
+        bad = t .bad ∙ f;
+        chip = t .chip ∙ b .chip ∙ simp z;
+        lines = t .lines ∙ b .number ∙ simp z;
+        counts = t .counts ∙ b .none ∙ simp z;
+        store-after = simp z;
+        places-after = simp z;
+      }
+
+  -- by a length
+  pub by-length :
+      replayAnswer ram store file ≡ 1 → Begun (p .chip) (p .lines) (p .counts) → Tells 1 0 p r →
+      Replays ram store places file store places r
+  by-length e b t = refused (sym e) (λ z. omega arith) (simp e) b t
+
+  -- by the take
+  pub by-take :
+      {answer first count offset : ℕ} → replayAnswer ram store file ≡ openAnswer file → Opening file answer first count offset →
+      (answer ≡ 0 → ⊥) → Begun (p .chip) (p .lines) (p .counts) → Tells answer first p r →
+      Replays ram store places file store places r
+  by-take e o n b t = refused (o .answered ∙ sym e) n (rw e (o .firstBad)) b t
+
+-- served: all is played
+pub plays :
+    {ram store places file store' places' : List ℕ} {p : Player} {r : Replayed} {answer first count offset : ℕ} →
+    replayAnswer ram store file ≡ openAnswer file → Opening file answer first count offset → answer ≡ 0 →
+    playedBy p store' places' ≡ played ram (fresh store places) (recordsOf file) → Tells 0 0 p r →
+    Replays ram store places file store' places' r
+unfolding outcome
+plays {ram} {store} {places} {file} e o z s t =
+    let d : replayAnswer ram store file ≡ 0 = e ∙ sym (o .answered) ∙ z in
+    record {
+      answer = t .answer ∙ sym d;
+      bad = t .bad ∙ simp d;
+      chip = t .chip ∙ simp d (ap (λ (q : Played). q .chip) s);
+      lines = t .lines ∙ simp d (ap (λ (q : Played). q .lines) s);
+      counts = t .counts ∙ simp d (ap (λ (q : Played). q .counts) s);
+      store-after = simp d (ap (λ (q : Played). q .store) s);
+      places-after = simp d (ap (λ (q : Played). q .places) s);
+    }

@@ -1,0 +1,74 @@
+//! A take's calls made one by one on any machine.
+
+use crate::machine::{Machine, Replay};
+use plus::take::{kind, Record, COUNTS};
+use plus::{answer, Access};
+
+/// A machine from reset, the buffers that it is lent, and what a replay counts.
+pub struct ByHand<'a, M> {
+    pub chip: M,
+    pub ram: &'a [u8],
+    pub store: &'a mut [u8],
+    pub lines: u32,
+    pub counts: [u32; COUNTS],
+}
+
+impl<'a, M: Machine> ByHand<'a, M> {
+    pub fn new(ram: &'a [u8], store: &'a mut [u8]) -> ByHand<'a, M> {
+        ByHand {
+            chip: M::new(),
+            ram,
+            store,
+            lines: 0,
+            counts: [0; COUNTS],
+        }
+    }
+
+    /// Steps lines until there are as many. The processor is off the 8255.
+    pub fn step_to(&mut self, line: u32) {
+        while self.lines < line {
+            let (answer, _) = self.chip.step(self.ram, [Access::Off; 3]);
+            assert_eq!(answer, answer::DONE);
+            self.lines += 1;
+        }
+    }
+
+    /// Makes a record's call: its answer.
+    pub fn call(&mut self, record: Record) -> u8 {
+        let Record { address, value, .. } = record;
+        match record.kind {
+            kind::WRITE_BC => self.chip.write_bc(value),
+            kind::WRITE_BD => self.chip.write_bd(value),
+            kind::WRITE_7F => self.chip.write_7f(value),
+            kind::PAGE_WRITE => self.chip.page_write(self.store, address, value),
+            kind::ACKNOWLEDGE => self.chip.acknowledge().0,
+            kind::UNDO => self.chip.undo(self.store),
+            other => panic!("kind {other}"),
+        }
+    }
+
+    /// Counts an answer if it is a refusal.
+    pub fn count(&mut self, answer: u8) {
+        if answer != answer::DONE {
+            self.counts[usize::from(answer)] += 1;
+        }
+    }
+
+    /// A record played: its line reached, its call made and counted.
+    pub fn play(&mut self, record: Record) {
+        self.step_to(record.line);
+        let answer = self.call(record);
+        self.count(answer);
+    }
+
+    /// What it has come to, as a replay that was served.
+    pub fn end(self) -> Replay<M> {
+        Replay {
+            answer: answer::DONE,
+            bad: 0,
+            chip: self.chip,
+            lines: self.lines,
+            counts: self.counts,
+        }
+    }
+}

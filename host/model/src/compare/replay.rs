@@ -1,0 +1,223 @@
+//! Takes played on the core and on another machine. Random sessions are made by hand
+//! on a recorder: their takes have to lead to its chip. The takes of all their calls,
+//! refused ones with them, have to lead to the same chip on both.
+
+use super::phrases::Writer;
+use super::script::buffers;
+use super::{differ, Buffers, Call};
+use crate::machine::{Machine, Replay};
+use crate::random::{changed_take, Random};
+use plus::take::{file_of, kind, Noted, Record, Recorder, Take, COUNTS};
+use plus::{answer, Access, Chip, RAM, STORE};
+
+/// How many takes were played, what they answered, and how often each number
+/// refused a call.
+#[derive(Clone, Copy, Debug, Default)]
+pub struct Tally {
+    pub takes: u64,
+    pub lines: u64,
+    pub answers: [u64; 15],
+    pub counts: [u64; COUNTS],
+}
+
+/// Two takes of each session: of the calls that a recorder noted, and of all calls.
+pub fn sessions<M: Machine>(count: u64, seed: u64) -> Result<Tally, String> {
+    let mut tally = Tally::default();
+    let mut lent = buffers(&mut Random::new(seed));
+    for n in seed..seed + count {
+        let mut random = Random::new(n);
+        if n % 64 == 0 {
+            lent = buffers(&mut random);
+        }
+        let calls = session(random, &mut lent);
+        let differs = |how| format!("session {n}: {how}");
+        tally.recorded::<M>(&calls, &lent).map_err(differs)?;
+        tally.of_all::<M>(&calls, &lent, n).map_err(differs)?;
+    }
+    Ok(tally)
+}
+
+/// A session from reset: some phrases of calls. What they put into RAM is there
+/// from the start.
+fn session(random: Random, lent: &mut Buffers) -> Vec<Call> {
+    let mut writer = Writer::new(random);
+    writer.opening();
+    while writer.calls.len() < 200 {
+        writer.phrase();
+    }
+    for call in &writer.calls {
+        if let Call::Ram { address, byte } = *call {
+            lent.ram[usize::from(address)] = byte;
+        }
+    }
+    writer.calls.retain(in_a_take);
+    writer.calls
+}
+
+/// Whether a take can have the call, or go on after it.
+pub fn in_a_take(call: &Call) -> bool {
+    !matches!(call, Call::Reset | Call::Ram { .. })
+}
+
+/// Makes a call on a recorder; whether it was a served line step.
+pub fn note(call: Call, recorder: &mut Recorder, lent: &mut Buffers) -> bool {
+    match call {
+        Call::WriteBc(byte) => recorder.write_bc(byte),
+        Call::WriteBd(byte) => recorder.write_bd(byte),
+        Call::Write7f(byte) => recorder.write_7f(byte),
+        Call::PageWrite {
+            store,
+            address,
+            byte,
+        } => recorder.page_write(&mut lent.store[..store], address, byte),
+        Call::PageRead {
+            store,
+            address,
+            bus,
+        } => recorder.page_read(&lent.store[..store], address, bus).0,
+        Call::Undo { store } => recorder.undo(&mut lent.store[..store]),
+        Call::Acknowledge => recorder.acknowledge().0,
+        Call::Step { ram, accesses } => {
+            return recorder.step(&lent.ram[..ram], accesses).0 == answer::DONE
+        }
+        _ => 0,
+    };
+    false
+}
+
+/// The records of all calls, as if each buffer had its length.
+fn records_of(calls: &[Call]) -> Vec<Record> {
+    let mut line = 0;
+    let mut records = Vec::new();
+    for &call in calls {
+        let (kind, address, value) = match call {
+            Call::WriteBc(byte) => (kind::WRITE_BC, 0, byte),
+            Call::WriteBd(byte) => (kind::WRITE_BD, 0, byte),
+            Call::Write7f(byte) => (kind::WRITE_7F, 0, byte),
+            Call::PageWrite { address, byte, .. } => (kind::PAGE_WRITE, address, byte),
+            Call::Acknowledge => (kind::ACKNOWLEDGE, 0, 0),
+            Call::Undo { .. } => (kind::UNDO, 0, 0),
+            Call::Step { .. } => {
+                line += 1;
+                continue;
+            }
+            _ => continue,
+        };
+        records.push(Record {
+            line,
+            kind,
+            address,
+            value,
+        });
+    }
+    records
+}
+
+/// Whether a take has so few lines that it is soon played.
+fn is_short(file: &[u8]) -> bool {
+    let lines = |take: Take| take.records().last().map_or(0, |record| record.line);
+    Take::open(file).map_or(0, lines) < 10_000
+}
+
+/// What replay gave, with the store after it.
+struct Given<M> {
+    replay: Replay<M>,
+    store: Vec<u8>,
+}
+
+impl<M: Machine> Given<M> {
+    fn new(ram: &[u8], store: &[u8], file: &[u8]) -> Given<M> {
+        let mut store = store.to_vec();
+        let replay = M::replay(ram, &mut store, file);
+        Given { replay, store }
+    }
+
+    /// How it differs from what another machine gave.
+    fn differs<N: Machine>(&self, other: &Given<N>) -> Result<(), String> {
+        let numbers = |answer, bad, lines, counts: [u32; COUNTS]| {
+            format!("answer {answer}, bad {bad}, lines {lines}, counts {counts:?}")
+        };
+        let (one, two) = (&self.replay, &other.replay);
+        let core = numbers(one.answer, one.bad, one.lines, one.counts);
+        let expected = numbers(two.answer, two.bad, two.lines, two.counts);
+        if core != expected {
+            return Err(format!("core gives {core}\nand not {expected}"));
+        }
+        if let Some(how) = differ::machines(&one.chip, &two.chip) {
+            return Err(how);
+        }
+        if self.store != other.store {
+            return Err(String::from("the pixel stores differ"));
+        }
+        Ok(())
+    }
+}
+
+impl Tally {
+    /// The take that a recorder makes of a session leads to the recorder's chip, and
+    /// nothing in it is refused.
+    fn recorded<M: Machine>(&mut self, calls: &[Call], lent: &Buffers) -> Result<(), String> {
+        let (mut recorder, mut after) = (Recorder::new(Noted::Changes), lent.clone());
+        let mut lines = 0;
+        for &call in calls {
+            lines += u32::from(note(call, &mut recorder, &mut after));
+        }
+        let records = recorder.records().expect("few lines");
+        let file = file_of(b"a session", records).expect("records are good");
+        let mut core = self.play::<M>(&lent.ram[..RAM], &lent.store[..STORE], &file)?;
+
+        // The recorder's last lines have no call behind them.
+        for _ in core.replay.lines..lines {
+            core.replay.chip.step(&lent.ram[..RAM], [Access::Off; 3]);
+        }
+        core.replay.lines = lines;
+        let expected = Replay {
+            answer: answer::DONE,
+            bad: 0,
+            chip: Chip::clone(&recorder),
+            lines,
+            counts: [0; COUNTS],
+        };
+        after.store.truncate(STORE);
+        core.differs(&Given {
+            replay: expected,
+            store: after.store,
+        })
+    }
+
+    /// The take of all calls, and then with a byte changed or with another length of
+    /// RAM or store.
+    fn of_all<M: Machine>(&mut self, calls: &[Call], lent: &Buffers, n: u64) -> Result<(), String> {
+        let mut random = Random::new(n);
+        let file = file_of(b"", &records_of(calls)).expect("records are good");
+        let (ram, store) = (&lent.ram[..RAM], &lent.store[..STORE]);
+        self.play::<M>(ram, store, &file)?;
+        let changed = changed_take(&mut random, &file);
+        if random.chance(2) && is_short(&changed) {
+            self.play::<M>(ram, store, &changed)?;
+        }
+        if random.chance(16) {
+            self.play::<M>(&lent.ram[..RAM - 1], store, &changed)?;
+            self.play::<M>(ram, &lent.store[..STORE + 1], &file)?;
+        }
+        Ok(())
+    }
+
+    /// Plays a take on both: what the core gave.
+    fn play<M: Machine>(
+        &mut self,
+        ram: &[u8],
+        store: &[u8],
+        file: &[u8],
+    ) -> Result<Given<Chip>, String> {
+        let core = Given::<Chip>::new(ram, store, file);
+        core.differs(&Given::<M>::new(ram, store, file))?;
+        self.takes += 1;
+        self.lines += u64::from(core.replay.lines);
+        self.answers[usize::from(core.replay.answer)] += 1;
+        for (sum, count) in self.counts.iter_mut().zip(core.replay.counts) {
+            *sum += u64::from(count);
+        }
+        Ok(core)
+    }
+}
