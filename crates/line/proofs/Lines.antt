@@ -6,7 +6,8 @@ use Prim.Native.Nat.{ℕ, zero, suc, _+_, _*_, _/_, _%_, _≤_, _<_}
 use native.Mathlib.Omega.{arith}
 use lib.Dec.{eqb}
 use lib.ListN.{length, length-append}
-use borrow.Author.Tests.{eqb-true, ne-eqb}
+use borrow.Author.Tests.{eqb-true, eqb-false, ne-eqb}
+use Rattle.words.specs.Choice.{if}
 use Rattle.words.specs.Words.{kindOf, low12}
 use Rattle.words.specs.declared.WordKind.the-variants.{Load, Pause, Repeat, Control}
 use Rattle.words.proofs.Order.{either-side}
@@ -73,7 +74,7 @@ eight P w c e a0 a1 b0 b1 c0 c1 d0 d1 =
     by-bits (suc (suc (suc zero))) h = pair 3 h d0 d1
     by-bits (suc (suc (suc (suc k)))) h = absurd (omega arith)
 
--- a control word that is none of the eight has no name: one with LOOP, and one without
+-- a control word that is none of the eight has no name
 module _ (w : ℕ) (e : w / 4096 ≡ 4) where
   pub unnamed-line :
       (w ≡ 0x4000 → ⊥) → (w ≡ 0x4001 → ⊥) → (w ≡ 0x4010 → ⊥) → (w ≡ 0x4011 → ⊥) →
@@ -82,13 +83,20 @@ module _ (w : ℕ) (e : w / 4096 ≡ 4) where
   unnamed-line a0 a1 b0 b1 c0 c1 d0 d1 =
       stray-line w e (λ h. eight (λ v. w ≡ v → ⊥) w e h a0 a1 b0 b1 c0 c1 d0 d1 refl)
 
-  pub loop-unnamed :
-      w % 2 ≡ 1 → (w ≡ 0x4001 → ⊥) → (w ≡ 0x4011 → ⊥) → (w ≡ 0x4021 → ⊥) → (w ≡ 0x4031 → ⊥) → lineOf w ≡ wordLine w
-  loop-unnamed o a b c d = unnamed-line (λ q. omega arith) a (λ q. omega arith) b (λ q. omega arith) c (λ q. omega arith) d
+  -- by all of the word but bit 0
+  pub pairs-unnamed :
+      (w / 2 ≡ 0x2000 → ⊥) → (w / 2 ≡ 0x2008 → ⊥) → (w / 2 ≡ 0x2010 → ⊥) → (w / 2 ≡ 0x2018 → ⊥) → lineOf w ≡ wordLine w
+  pairs-unnamed a b c d =
+      unnamed-line
+      (λ q. a (rw q)) (λ q. a (rw q)) (λ q. b (rw q)) (λ q. b (rw q)) (λ q. c (rw q)) (λ q. c (rw q)) (λ q. d (rw q)) (λ q. d (rw q))
 
-  pub plain-unnamed :
-      w % 2 ≡ 0 → (w ≡ 0x4000 → ⊥) → (w ≡ 0x4010 → ⊥) → (w ≡ 0x4020 → ⊥) → (w ≡ 0x4030 → ⊥) → lineOf w ≡ wordLine w
-  plain-unnamed o a b c d = unnamed-line a (λ q. omega arith) b (λ q. omega arith) c (λ q. omega arith) d (λ q. omega arith)
+-- a word's line by its bit 0, LOOP's
+pub looped-line : (w v : ℕ) → w / 2 ≡ v → lineOf w ≡ if (eqb (w % 2) 1) (lineOf (v * 2 + 1)) (lineOf (v * 2))
+looped-line w v e = by-bit (eqb (w % 2) 1) refl
+  where
+    by-bit : (t : Bool) → eqb (w % 2) 1 ≡ t → lineOf w ≡ if t (lineOf (v * 2 + 1)) (lineOf (v * 2))
+    by-bit true h = let b = eqb-true (w % 2) 1 h in ap lineOf (omega arith)
+    by-bit false h = let b = eqb-false (w % 2) 1 h in ap lineOf (omega arith)
 
 -- what holds of the text of each form, and of the eight names, holds of every word's
 pub by-form :

@@ -4,6 +4,7 @@ ghost use mathlib.Core.Path.{_≡_};
 ghost use mathlib.Core.List.{[], _∷_};
 ghost use Prim.Native.Nat.{_+_, _/_, _%_, _≤_, _<_};
 ghost use lib.ListN.{length};
+ghost use Rattle.words.specs.Choice.{if};
 ghost use Rattle.line.specs.Line.{decimal, digits, lineOf};
 ghost use Rattle.line.specs.Parts.{Holds, Four, counted, loadLine, pauseLine, repeatLine, wordLine};
 
@@ -165,43 +166,31 @@ fn unnamed(text: &[u8], word: u16) -> bool
     same_byte(text, 9, b'\n')
 }
 
-// A control word with LOOP.
-fn looped(text: &[u8], word: u16) -> bool
-    requires { ⌜ ((word / 4096 ≡ 4) × (word % 2 ≡ 1)) × (length (lineOf word) ≤ length (now text)) ⌝ }
-    ensures { λ r. ⌜ Holds (now (text .entry)) 0 (lineOf word) r ⌝ }
+// One of two parts: the first where the word has LOOP.
+fn either(text: &[u8], looped: bool, with: &[u8], without: &[u8]) -> bool
+    requires { ⌜ length (if looped (now with) (now without)) ≤ length (now text) ⌝ }
+    ensures { λ r. ⌜ Holds (now (text .entry)) 0 (if looped (now (with .entry)) (now (without .entry))) r ⌝ }
 {
-    match word {
-        0x4001 => same(text, 0, b"LOOP\n"),
-        0x4011 => same(text, 0, b"LOOP+INT\n"),
-        0x4021 => same(text, 0, b"LOOP+STOP\n"),
-        0x4031 => same(text, 0, b"LOOP+INT+STOP\n"),
-        _ => unnamed(text, word),
+    if looped {
+        return same(text, 0, with);
     }
+    same(text, 0, without)
 }
 
-// A control word with no LOOP.
-fn not_looped(text: &[u8], word: u16) -> bool
-    requires { ⌜ ((word / 4096 ≡ 4) × (word % 2 ≡ 0)) × (length (lineOf word) ≤ length (now text)) ⌝ }
-    ensures { λ r. ⌜ Holds (now (text .entry)) 0 (lineOf word) r ⌝ }
-{
-    match word {
-        0x4000 => same(text, 0, b"NOP\n"),
-        0x4010 => same(text, 0, b"INT\n"),
-        0x4020 => same(text, 0, b"STOP\n"),
-        0x4030 => same(text, 0, b"INT+STOP\n"),
-        _ => unnamed(text, word),
-    }
-}
-
-// A control word.
+// A control word, with LOOP and without it.
 fn control(text: &[u8], word: u16) -> bool
     requires { ⌜ (word / 4096 ≡ 4) × (length (lineOf word) ≤ length (now text)) ⌝ }
     ensures { λ r. ⌜ Holds (now (text .entry)) 0 (lineOf word) r ⌝ }
 {
-    if word % 2 == 1 {
-        return looped(text, word);
+    let looped = word % 2 == 1;
+    let others = word / 2;
+    match others {
+        0x2000 => either(text, looped, b"LOOP\n", b"NOP\n"),
+        0x2008 => either(text, looped, b"LOOP+INT\n", b"INT\n"),
+        0x2010 => either(text, looped, b"LOOP+STOP\n", b"STOP\n"),
+        0x2018 => either(text, looped, b"LOOP+INT+STOP\n", b"INT+STOP\n"),
+        _ => unnamed(text, word),
     }
-    not_looped(text, word)
 }
 
 // The line of a word.

@@ -4,6 +4,7 @@ ghost use mathlib.Core.Path.{_≡_};
 ghost use mathlib.Core.List.{[], _∷_, _++_};
 ghost use Prim.Native.Nat.{_+_, _/_, _%_, _≤_, _<_};
 ghost use lib.ListN.{length};
+ghost use Rattle.words.specs.Choice.{if};
 ghost use Rattle.line.specs.Line.{decimal, digits, lineOf};
 ghost use Rattle.line.specs.Parts.{Puts, counted, loadLine, wordLine};
 
@@ -100,43 +101,31 @@ fn put_word(text: &mut [u8], at: usize, word: u16) -> usize
     put_byte(text, end, b'\n')
 }
 
-// A control word with LOOP.
-fn put_loop(text: &mut [u8], at: usize, word: u16) -> usize
-    requires { ⌜ ((word / 4096 ≡ 4) × (word % 2 ≡ 1)) × (at + length (lineOf word) ≤ length (now text)) ⌝ }
-    ensures { λ r. ⌜ Puts (now (text .entry)) at (lineOf word) (now (text .exit)) r ⌝ }
+// One of two parts: the first where the word has LOOP.
+fn put_either(text: &mut [u8], at: usize, looped: bool, with: &[u8], without: &[u8]) -> usize
+    requires { ⌜ at + length (if looped (now with) (now without)) ≤ length (now text) ⌝ }
+    ensures { λ r. ⌜ Puts (now (text .entry)) at (if looped (now (with .entry)) (now (without .entry))) (now (text .exit)) r ⌝ }
 {
-    match word {
-        0x4001 => put(text, at, b"LOOP\n"),
-        0x4011 => put(text, at, b"LOOP+INT\n"),
-        0x4021 => put(text, at, b"LOOP+STOP\n"),
-        0x4031 => put(text, at, b"LOOP+INT+STOP\n"),
-        _ => put_word(text, at, word),
+    if looped {
+        return put(text, at, with);
     }
+    put(text, at, without)
 }
 
-// A control word with no LOOP.
-fn put_no_loop(text: &mut [u8], at: usize, word: u16) -> usize
-    requires { ⌜ ((word / 4096 ≡ 4) × (word % 2 ≡ 0)) × (at + length (lineOf word) ≤ length (now text)) ⌝ }
-    ensures { λ r. ⌜ Puts (now (text .entry)) at (lineOf word) (now (text .exit)) r ⌝ }
-{
-    match word {
-        0x4000 => put(text, at, b"NOP\n"),
-        0x4010 => put(text, at, b"INT\n"),
-        0x4020 => put(text, at, b"STOP\n"),
-        0x4030 => put(text, at, b"INT+STOP\n"),
-        _ => put_word(text, at, word),
-    }
-}
-
-// A control word.
+// A control word, with LOOP and without it.
 fn put_control(text: &mut [u8], at: usize, word: u16) -> usize
     requires { ⌜ (word / 4096 ≡ 4) × (at + length (lineOf word) ≤ length (now text)) ⌝ }
     ensures { λ r. ⌜ Puts (now (text .entry)) at (lineOf word) (now (text .exit)) r ⌝ }
 {
-    if word % 2 == 1 {
-        return put_loop(text, at, word);
+    let looped = word % 2 == 1;
+    let others = word / 2;
+    match others {
+        0x2000 => put_either(text, at, looped, b"LOOP\n", b"NOP\n"),
+        0x2008 => put_either(text, at, looped, b"LOOP+INT\n", b"INT\n"),
+        0x2010 => put_either(text, at, looped, b"LOOP+STOP\n", b"STOP\n"),
+        0x2018 => put_either(text, at, looped, b"LOOP+INT+STOP\n", b"INT+STOP\n"),
+        _ => put_word(text, at, word),
     }
-    put_no_loop(text, at, word)
 }
 
 // The line of a word.
