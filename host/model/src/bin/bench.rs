@@ -25,6 +25,8 @@ enum Work {
     Export,
     Draw,
     Frame,
+    /// A frame at whose start every sprite is put somewhere else.
+    Moving,
     Forecast,
     Print,
     Read,
@@ -49,6 +51,10 @@ struct Case {
     mode: u8,
     /// Every pixel of the sprites lets what is behind it show.
     transparent: bool,
+    /// The sprites' magnification byte.
+    magnification: u8,
+    /// Positions from one sprite's left edge to the next one's.
+    apart: u16,
 }
 
 const fn case(name: &'static str, work: Work, count: usize, sprites: u16, mode: u8) -> Case {
@@ -59,10 +65,12 @@ const fn case(name: &'static str, work: Work, count: usize, sprites: u16, mode: 
         sprites,
         mode,
         transparent: false,
+        magnification: 0b1111,
+        apart: 40,
     }
 }
 
-const CASES: [Case; 20] = [
+const CASES: [Case; 32] = [
     case("line step", Work::Step, 100_000, 0, 1),
     case("page write", Work::PageWrite, 100_000, 0, 1),
     case("page read", Work::PageRead, 100_000, 0, 1),
@@ -77,8 +85,76 @@ const CASES: [Case; 20] = [
         transparent: true,
         ..case("draw, 16 transparent sprites", Work::Draw, 2_000, 16, 1)
     },
+    case("draw, 4 sprites, mode 0", Work::Draw, 2_000, 4, 0),
+    case("draw, 16 sprites, mode 0", Work::Draw, 2_000, 16, 0),
+    case("draw, 4 sprites, mode 2", Work::Draw, 2_000, 4, 2),
+    case("draw, 16 sprites, mode 2", Work::Draw, 2_000, 16, 2),
+    Case {
+        magnification: 0b0101,
+        ..case(
+            "draw, 16 sprites at magnification 1",
+            Work::Draw,
+            2_000,
+            16,
+            1,
+        )
+    },
+    Case {
+        magnification: 0b1010,
+        ..case(
+            "draw, 16 sprites at magnification 2",
+            Work::Draw,
+            2_000,
+            16,
+            1,
+        )
+    },
+    Case {
+        apart: 0,
+        ..case("draw, 16 sprites in one place", Work::Draw, 2_000, 16, 1)
+    },
+    Case {
+        apart: 0,
+        transparent: true,
+        ..case(
+            "draw, 16 transparent in one place",
+            Work::Draw,
+            2_000,
+            16,
+            1,
+        )
+    },
+    Case {
+        magnification: 0b0101,
+        apart: 16,
+        ..case(
+            "draw, 16 edge to edge, magnification 1",
+            Work::Draw,
+            2_000,
+            16,
+            1,
+        )
+    },
+    Case {
+        apart: 1,
+        transparent: true,
+        ..case("draw, 16 transparent, 1 apart", Work::Draw, 2_000, 16, 1)
+    },
+    Case {
+        magnification: 0b0101,
+        apart: 1,
+        transparent: true,
+        ..case(
+            "draw, 16 transparent, 1 apart, magnification 1",
+            Work::Draw,
+            2_000,
+            16,
+            1,
+        )
+    },
     case("frame of 312 lines, no sprite", Work::Frame, 10, 0, 1),
     case("frame of 312 lines, 16 sprites", Work::Frame, 10, 16, 1),
+    case("frame of 312 lines, 16 moving", Work::Moving, 10, 16, 1),
     case("forecast, 32,767 words", Work::Forecast, 20, 0, 1),
     case("print, 30,000 words", Work::Print, 20, 0, 1),
     case("read, 30,000 words", Work::Read, 20, 0, 1),
@@ -160,16 +236,38 @@ fn set_up<M: UnderTest>(case: &Case) -> M {
     machine.registers(&[(1, 40), (4, 38), (6, 39), (9, 7), (12, 0x30)]);
     machine.write_7f(0x80 | case.mode);
     for n in 0..case.sprites {
-        let [low, high] = (n * 40).to_le_bytes();
-        machine.poke(0x6000 + 8 * n, low);
-        machine.poke(0x6001 + 8 * n, high);
-        machine.poke(0x6004 + 8 * n, 0b1111);
+        for (address, byte) in coordinates(n, n * case.apart, 0) {
+            machine.poke(address, byte);
+        }
+        machine.poke(0x6004 + 8 * n, case.magnification);
     }
     machine.poke(0x6C0F, 7);
     for i in 0..PLACES as u16 {
         machine.poke(0x6400 + i % 64, i as u8);
     }
     machine
+}
+
+/// A sprite's coordinates, as writes to the page.
+fn coordinates(sprite: u16, x: u16, y: u16) -> [(u16, u8); 4] {
+    let at = 0x6000 + 8 * sprite;
+    let ([x_low, x_high], [y_low, y_high]) = (x.to_le_bytes(), y.to_le_bytes());
+    [
+        (at, x_low),
+        (at + 1, x_high),
+        (at + 2, y_low),
+        (at + 3, y_high),
+    ]
+}
+
+/// Where a sprite is in a frame: each has a speed of its own.
+fn moved(sprite: u16, frame: usize) -> [(u16, u8); 4] {
+    let (n, frame) = (sprite, (frame % 1000) as u16);
+    coordinates(
+        n,
+        (40 * n + (n + 1) * frame) % 640,
+        (18 * n + 2 * frame) % 256,
+    )
 }
 
 /// The calls of each case and the time they take, written once for both: they
@@ -214,6 +312,15 @@ macro_rules! calls_of {
                 Work::Frame => repeat(312 * count, |_| {
                     black_box(machine.draw(&lent.ram, &lent.store, &mut lent.line));
                     black_box(machine.step(&lent.ram, [$off; 3]));
+                }),
+                Work::Moving => repeat(count, |frame| {
+                    for (address, byte) in (0..case.sprites).flat_map(|n| moved(n, frame)) {
+                        black_box(machine.page_write(&mut lent.store, address, byte));
+                    }
+                    for _ in 0..312 {
+                        black_box(machine.draw(&lent.ram, &lent.store, &mut lent.line));
+                        black_box(machine.step(&lent.ram, [$off; 3]));
+                    }
                 }),
                 Work::Forecast => repeat(count, |_| {
                     black_box($forecast(&lent.ram, 0, 0));
