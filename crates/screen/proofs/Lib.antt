@@ -1,4 +1,4 @@
--- What the proofs share: the table's rule, values in place, and mode 0's pens.
+-- What the proofs share: the table's rule, values in place, and pairs of values.
 pub mod Table
 pub mod Storing
-pub mod Doubling
+pub mod Pairs

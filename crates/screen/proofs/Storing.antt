@@ -1,18 +1,17 @@
--- Values that a loop stores one or two at a time, and a line's pens stored a character at a time.
-use mathlib.Core.Path.{_≡_, refl, ap, _∙_}
+-- Values that a loop stores one or two at a time, a line's pens stored a character at a time, and a whole line.
+use mathlib.Core.Path.{_≡_, refl, _∙_}
 use mathlib.Core.List.{List}
-use Prim.Native.Nat.{ℕ, zero, suc, _+_, _-_, _*_, _/_, _%_, _<_}
+use Prim.Native.Nat.{ℕ, _+_, _-_, _*_, _/_, _%_, _<_}
 use native.Mathlib.Nat.{zero-add}
 use native.Mathlib.Omega.{arith}
 use borrow.Author.Count.{below-more}
 use borrow.Author.Tests.{lt-ltb, le-ltb}
-use lib.ListN.{length, getD, set, length-set}
+use lib.ListN.{length, getD, set, replicate, length-set, getD-replicate}
 use lib.Seq.{getD-set-same, getD-set-other}
-use Rattle.picture.specs.Pens.{widthOf, penAt}
+use Rattle.picture.specs.Pens.{widthOf}
 use Rattle.picture.specs.Screen.{characterAt, byteAddress}
-use Rattle.screen.specs.MainLine.{linePen}
-use Rattle.screen.specs.Placing.{eight, characterPen, Placed}
-use Rattle.words.proofs.Lists.{getD-listed}
+use Rattle.screen.specs.MainLine.{linePen, LinePens}
+use Rattle.screen.specs.Placing.{characterPen, Placed}
 use Rattle.words.proofs.Order.{either-side}
 
 pub placed-none : {f : ℕ → ℕ} {at : ℕ} {l : List ℕ} → Placed f at 0 l l
@@ -46,34 +45,6 @@ pub front-two-more :
     Placed f 0 (2 * (i + 1)) before (set (set l (2 * i) v) (2 * i + 1) w)
 front-two-more i s room one two = rw (zero-add (2 * i)) at (two-more i s (omega arith) one two)
 
-pub one-of-eight : (f : ℕ → ℕ) {l : List ℕ} {j : ℕ} → l ≡ eight f → j < 8 → getD l j 0 ≡ f j
-one-of-eight f {l} {j} are h = rw are (getD-listed f 0 8 j h ∙ ap f (omega arith))
-
--- a list has 16 of pen 0, then a line's pens below a position
-pub record PensBelow (ram : List ℕ) (mode address row n : ℕ) (l : List ℕ) : Type 0 where
-  pub lead : (p : ℕ) → p < 16 → getD l p 0 ≡ 0
-  pub pen : (p : ℕ) → p < n → getD l (16 + p) 0 ≡ linePen ram mode address row p
-
--- two bytes' values in place are a character's
-pub placed-both :
-    (width left right : ℕ) {at : ℕ} {l l′ l″ : List ℕ} → Placed (penAt width left) at 8 l l′ → Placed (penAt width right) (at + 8) 8 l′ l″ →
-    Placed (characterPen width left right) at 16 l l″
-unfolding characterPen
-placed-both width left right {at} {l} {l′} {l″} first second =
-    record {
-      kept = λ p h. second .kept p (omega arith) ∙ first .kept p h;
-      put =
-          λ j h.
-          either-side j 8
-          (λ less.
-          let e : j % 8 ≡ j = omega arith in
-          rw (lt-ltb j 8 less, e) (second .kept (at + j) (omega arith) ∙ first .put j less))
-          (λ more.
-          let e : j % 8 ≡ j - 8 = omega arith in
-          let p : at + 8 + (j - 8) ≡ at + j = omega arith in
-          rw (le-ltb j 8 more, e) (rw p at (second .put (j - 8) (omega arith))));
-    }
-
 -- the second of a character's bytes lies one above the first
 pub above : (a row : ℕ) → byteAddress a row 0 + 1 ≡ byteAddress a row 1
 unfolding byteAddress
@@ -100,18 +71,25 @@ module _ (ram : List ℕ) (mode address row c : ℕ) where
 
   -- one character more
   pub character-more :
-      {left right at : ℕ} {l l′ : List ℕ} → PensBelow ram mode address row (c * 16) l →
+      {left right at : ℕ} {before l l′ : List ℕ} → Placed (linePen ram mode address row) 16 (c * 16) before l →
       at ≡ byteAddress (characterAt address c) row 0 → left ≡ getD ram at 0 → right ≡ getD ram (at + 1) 0 →
-      Placed (characterPen (widthOf mode) left right) (16 + c * 16) 16 l l′ → PensBelow ram mode address row ((c + 1) * 16) l′
-  character-more {left} {right} {at} {l} {l′} below is-at is-left is-right placed =
+      Placed (characterPen (widthOf mode) left right) (16 + c * 16) 16 l l′ → Placed (linePen ram mode address row) 16 ((c + 1) * 16) before l′
+  character-more below is-at is-left is-right placed =
       record {
-        lead = λ p h. placed .kept p (omega arith) ∙ below .lead p h;
-        pen =
+        kept = λ p h. placed .kept p (omega arith) ∙ below .kept p h;
+        put =
             λ p h.
-            either-side p (c * 16) (λ lower. placed .kept (16 + p) (omega arith) ∙ below .pen p lower)
+            either-side p (c * 16) (λ lower. placed .kept (16 + p) (omega arith) ∙ below .put p lower)
             (λ upper.
             let j : ℕ = p - c * 16 in
             let e : c * 16 + j ≡ p = omega arith in
             let a : 16 + c * 16 + j ≡ 16 + p = omega arith in
             rw (a, e) at (placed .put j (omega arith) ∙ here is-at is-left is-right j (omega arith)));
       }
+
+-- a line's 640 pens after 16 of pen 0
+pub whole :
+    {ram line : List ℕ} {mode address row : ℕ} → length line ≡ 656 → Placed (linePen ram mode address row) 16 640 (replicate 656 0) line →
+    LinePens ram mode address row line
+whole long placed =
+    record { size = long; lead = λ p h. placed .kept p h ∙ getD-replicate 656 p 0 0 (omega arith); pen = placed .put }

@@ -3,11 +3,10 @@
 use mathlib.Core.Path.{_≡_}
 use mathlib.Core.List.{List}
 use Prim.Native.Nat.{ℕ, _+_, _/_, _%_, _<_, _≤_}
-use lib.Dec.{ltb}
+use lib.Dec.{eqb, ltb}
 use lib.ListN.{getD}
 use Rattle.words.specs.Choice.{if}
-use Rattle.words.specs.Lists.{listed}
-use Rattle.picture.specs.Pens.{pen, penAt}
+use Rattle.picture.specs.Pens.{penAt}
 use Rattle.picture.specs.Screen.{characterAt, byteAddress}
 
 -- a width that a byte's 8 positions are a whole number of
@@ -15,10 +14,6 @@ pub record PenWidth (width : ℕ) : Type 0 where
   pub some : 0 < width
   pub few : 8 / width ≤ 8
   pub each : (j : ℕ) → j < 8 → j / width < 8 / width
-
--- what a function gives at a byte's 8 positions
-abbrev pub eight : (ℕ → ℕ) → List ℕ
-eight f = listed f 0 8
 
 -- of a character's two bytes the one at position j, and its pen there
 abbrev pub halfAt : ℕ → ℕ → ℕ → ℕ
@@ -39,10 +34,14 @@ lineByte ram address row i = getD ram (byteAddress (characterAt address (i / 2))
 pub record LineBytes (ram : List ℕ) (address row : ℕ) (bytes : List ℕ) : Type 0 where
   pub each : (i : ℕ) → i < 80 → getD bytes i 0 ≡ lineByte ram address row i
 
--- the two pens of each byte in mode 0, one after the other
-unfoldable pub pairPen : List ℕ → ℕ → ℕ
-pairPen bytes p = pen 4 (getD bytes (p / 2) 0) (p % 2)
+-- two values of each one: what a function gives for it with 0, then with 1
+unfoldable pub paired : (ℕ → ℕ → ℕ) → List ℕ → ℕ → ℕ
+paired f from p = f (getD from (p / 2) 0) (p % 2)
 
--- each value twice
-unfoldable pub doubled : List ℕ → ℕ → ℕ
-doubled from p = getD from (p / 2) 0
+-- a value as it is, both times
+abbrev pub copyOf : ℕ → ℕ → ℕ
+copyOf v r = v
+
+-- its quotient by a number, then its remainder
+abbrev pub partOf : ℕ → ℕ → ℕ → ℕ
+partOf by v r = if (eqb r 0) (v / by) (v % by)

@@ -2,14 +2,13 @@
 mod pens;
 
 ghost use mathlib.Core.Path.{_≡_};
-ghost use mathlib.Core.Logic.{_≢_};
 ghost use Prim.Native.Nat.{_+_, _*_, _/_, _<_, _≤_};
 ghost use lib.ListN.{length};
-ghost use Rattle.picture.specs.Pens.{widthOf, pen, penAt};
+ghost use Rattle.picture.specs.Pens.{pen};
 ghost use Rattle.picture.specs.Screen.{characterAt, byteAddress};
 ghost use Rattle.screen.specs.Tables.{Table};
 ghost use Rattle.screen.specs.MainLine.{LinePens};
-ghost use Rattle.screen.specs.Placing.{eight, PenWidth, halfAt, characterPen, pairPen, doubled, Placed, LineBytes};
+ghost use Rattle.screen.specs.Placing.{PenWidth, halfAt, characterPen, paired, copyOf, partOf, Placed, LineBytes};
 
 // Of a character's two bytes the one at one of its 16 positions.
 fn half(left: u8, right: u8, j: usize) -> u8
@@ -35,48 +34,6 @@ fn put_pens(pens: &mut [u8], at: usize, table: &[u8], left: u8, right: u8, width
     }
 }
 
-// The pens at a byte's 8 positions in mode 2: a pen a bit, bit 7 first.
-fn eight_in_2(byte: u8) -> [u8; 8]
-    ensures { λ r. ⌜ r ≡ eight (penAt 1 byte) ⌝ }
-{
-    [
-        byte / 128 % 2,
-        byte / 64 % 2,
-        byte / 32 % 2,
-        byte / 16 % 2,
-        byte / 8 % 2,
-        byte / 4 % 2,
-        byte / 2 % 2,
-        byte % 2,
-    ]
-}
-
-// A byte's pens in mode 2, at the byte's 8 positions.
-fn put_bits(pens: &mut [u8], at: usize, byte: u8)
-    requires { ⌜ (length (now pens) ≡ 656) × (at ≤ 648) ⌝ }
-    ensures { λ r. ⌜ Placed (penAt 1 byte) at 8 (now (pens .entry)) (now (pens .exit)) ⌝ }
-{
-    let eight = eight_in_2(byte);
-    let mut j = 0;
-    while j < 8 {
-        pens[at + j] = eight[j];
-        j += 1;
-    }
-}
-
-// A character's pens in mode 1, by its table, or in mode 2.
-fn put(pens: &mut [u8], at: usize, mode: u8, table: &[u8; 1024], left: u8, right: u8)
-    requires { ⌜ (length (now pens) ≡ 656) × (at ≤ 640) × Table 2 (now table) × (mode ≢ 0) ⌝ }
-    ensures { λ r. ⌜ Placed (characterPen (widthOf mode) left right) at 16 (now (pens .entry)) (now (pens .exit)) ⌝ }
-{
-    if mode == 1 {
-        put_pens(pens, at, table, left, right, 2);
-        return;
-    }
-    put_bits(pens, at, left);
-    put_bits(pens, at + 8, right);
-}
-
 // Where the first of a character's two bytes lies, by the screen address and the line in the row.
 fn character_byte(address: u16, row: u8, c: usize) -> usize
     requires { ⌜ c < 40 ⌝ }
@@ -86,10 +43,9 @@ fn character_byte(address: u16, row: u8, c: usize) -> usize
     a / 4096 * 16384 + row as usize * 2048 + a % 1024 * 2
 }
 
-// A line's pens in mode 1 or 2, a character after the other.
-fn character_pens(ram: &[u8], mode: u8, address: u16, row: u8) -> [u8; 656]
-    requires { ⌜ mode ≢ 0 ⌝ }
-    ensures { λ r. ⌜ LinePens (now (ram .entry)) mode address row r ⌝ }
+// A line's pens in mode 1, a character after the other.
+fn mode_1_pens(ram: &[u8], address: u16, row: u8) -> [u8; 656]
+    ensures { λ r. ⌜ LinePens (now (ram .entry)) 1 address row r ⌝ }
 {
     let table = pens::mode_1_table();
     let mut line = [0u8; 656];
@@ -98,7 +54,7 @@ fn character_pens(ram: &[u8], mode: u8, address: u16, row: u8) -> [u8; 656]
         let at = character_byte(address, row, c);
         let left = words::byte_at(ram, at);
         let right = words::byte_at(ram, at + 1);
-        put(&mut line, 16 + c * 16, mode, &table, left, right);
+        put_pens(&mut line, 16 + c * 16, &table, left, right, 2);
         c += 1;
     }
     line
@@ -129,7 +85,7 @@ fn first_pen(byte: u8) -> u8
 // The two pens of each byte in mode 0. The second has the bits one lower.
 fn put_pairs(bytes: &[u8], pens: &mut [u8])
     requires { ⌜ 2 * length (now bytes) ≤ length (now pens) ⌝ }
-    ensures { λ r. ⌜ Placed (pairPen (now (bytes .entry))) 0 (2 * length (now (bytes .entry))) (now (pens .entry)) (now (pens .exit)) ⌝ }
+    ensures { λ r. ⌜ Placed (paired (pen 4) (now (bytes .entry))) 0 (2 * length (now (bytes .entry))) (now (pens .entry)) (now (pens .exit)) ⌝ }
 {
     let mut i = 0;
     while i < bytes.len() {
@@ -142,7 +98,7 @@ fn put_pairs(bytes: &[u8], pens: &mut [u8])
 // Each pen twice.
 fn put_twice(from: &[u8], pens: &mut [u8], at: usize)
     requires { ⌜ at + 2 * length (now from) ≤ length (now pens) ⌝ }
-    ensures { λ r. ⌜ Placed (doubled (now (from .entry))) at (2 * length (now (from .entry))) (now (pens .entry)) (now (pens .exit)) ⌝ }
+    ensures { λ r. ⌜ Placed (paired copyOf (now (from .entry))) at (2 * length (now (from .entry))) (now (pens .entry)) (now (pens .exit)) ⌝ }
 {
     let mut i = 0;
     while i < from.len() {
@@ -166,6 +122,34 @@ fn mode_0_pens(ram: &[u8], address: u16, row: u8) -> [u8; 656]
     line
 }
 
+// Of each number its quotient and its remainder by another.
+fn put_parts(from: &[u8], pens: &mut [u8], at: usize, by: u8)
+    requires { ⌜ at + 2 * length (now from) ≤ length (now pens) ⌝ }
+    requires { ⌜ 0 < by ⌝ }
+    ensures { λ r. ⌜ Placed (paired (partOf by) (now (from .entry))) at (2 * length (now (from .entry))) (now (pens .entry)) (now (pens .exit)) ⌝ }
+{
+    let mut i = 0;
+    while i < from.len() {
+        pens[at + 2 * i] = from[i] / by;
+        pens[at + 2 * i + 1] = from[i] % by;
+        i += 1;
+    }
+}
+
+// A line's pens in mode 2, a bit each, bit 7 first: the halves of each byte, their halves, and theirs.
+fn mode_2_pens(ram: &[u8], address: u16, row: u8) -> [u8; 656]
+    ensures { λ r. ⌜ LinePens (now (ram .entry)) 2 address row r ⌝ }
+{
+    let bytes = line_bytes(ram, address, row);
+    let mut halves = [0u8; 160];
+    let mut quarters = [0u8; 320];
+    let mut line = [0u8; 656];
+    put_parts(&bytes, &mut halves, 0, 16);
+    put_parts(&halves, &mut quarters, 0, 4);
+    put_parts(&quarters, &mut line, 16, 2);
+    line
+}
+
 // The pens at a line's 640 positions, counted from where the scroll starts, after 16 of pen 0.
 pub fn line_pens(ram: &[u8], mode: u8, address: u16, row: u8) -> [u8; 656]
     ensures { λ r. ⌜ LinePens (now (ram .entry)) mode address row r ⌝ }
@@ -173,5 +157,8 @@ pub fn line_pens(ram: &[u8], mode: u8, address: u16, row: u8) -> [u8; 656]
     if mode == 0 {
         return mode_0_pens(ram, address, row);
     }
-    character_pens(ram, mode, address, row)
+    if mode == 1 {
+        return mode_1_pens(ram, address, row);
+    }
+    mode_2_pens(ram, address, row)
 }

@@ -1,6 +1,5 @@
 -- `screen::character_byte`: no sum passes 2^20, and the address is the definition's.
 use borrow.Author.Needs.{needs}
-use native.Mathlib.Omega.{arith}
 use Rattle.picture.specs.Screen.{byteAddress}
 use Rattle.screen.proofs.character_byte.Statement.{statement}
 use Rattle.screen.proofs.character_byte.Tie as tie

@@ -6,7 +6,7 @@ use native.Mathlib.Omega.{arith}
 use lib.ListN.{length}
 use Rattle.screen.specs.Placing.{lineByte, Placed}
 use Rattle.screen.proofs.Storing.{placed-none, front-two-more}
-use Rattle.screen.proofs.Doubling.{left-byte, right-byte}
+use Rattle.screen.proofs.Pairs.{left-byte, right-byte}
 use borrow.Author.Needs.{needs}
 use Rattle.screen.proofs.line_bytes.Statement.{statement}
 use Rattle.screen.proofs.line_bytes.Tie as tie

@@ -1,7 +1,7 @@
 -- `screen::mode_0_pens`: pairs of pens, doubled twice.
-use native.Mathlib.Omega.{arith}
-use lib.ListN.{getD-replicate}
-use Rattle.screen.proofs.Doubling.{pens-of}
+use mathlib.Core.Path.{refl}
+use Rattle.picture.specs.Pens.{penAt}
+use Rattle.screen.proofs.Pairs.{pens-of}
 use borrow.Author.Needs.{needs}
 use Rattle.screen.proofs.mode_0_pens.Statement.{statement}
 use Rattle.screen.proofs.mode_0_pens.Tie as tie
@@ -37,11 +37,14 @@ put-twice-requires-2 : tie.Need-put-twice-requires-2
 put-twice-requires-2 c κs = search needs
 
 returns : tie.Need-returns
+unfolding penAt
 returns c =
-    let s = c .before .before .before .before .before .before .before .before .before .before .before .before .before .before .args in
-    pens-of (s .ram .now) (s .address) (s .row) (c .before .before .before .before .before .before .before .before .before .before .before .before .line-bytes .ensures) (c .before .before .before .before .before .before .before .before .before .put-pairs .ensures) (c .before .before .before .before .before .put-twice .ensures)
-    (c .before .put-twice2 .ensures) (search needs) (search needs) (search needs) (search needs)
-    (λ p h. getD-replicate 656 p 0 0 (omega arith))
+    let third = c .before in
+    let second = third .before .before .before .before in
+    let first = second .before .before .before .before in
+    let lined = first .before .before .before in
+    pens-of _ _ _ (λ i j h. refl) (lined .line-bytes .ensures) (first .put-pairs .ensures)
+    (second .put-twice .ensures) (third .put-twice2 .ensures) (search needs) (search needs) (search needs) (search needs)
 
 pub mode-0-pens-spec : {M : Type 1} → statement M
 mode-0-pens-spec =

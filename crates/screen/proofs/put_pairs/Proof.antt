@@ -3,16 +3,17 @@ use mathlib.Core.Path.{_≡_, _∙_}
 use Prim.Native.Nat.{_≤_, _-_, _*_}
 use native.Mathlib.Omega.{arith}
 use lib.ListN.{length, length-set}
-use Rattle.screen.specs.Placing.{pairPen, Placed}
+use Rattle.picture.specs.Pens.{pen}
+use Rattle.screen.specs.Placing.{paired, Placed}
 use Rattle.screen.proofs.Storing.{placed-none, front-two-more}
-use Rattle.screen.proofs.Doubling.{first-pair, second-pair}
+use Rattle.screen.proofs.Pairs.{first-value, second-value, shifted}
 use borrow.Author.Needs.{needs}
 use Rattle.screen.proofs.put_pairs.Statement.{statement}
 use Rattle.screen.proofs.put_pairs.Tie as tie
 
 abbrev Inv-loop : tie.InvT-loop
 Inv-loop bytes pens₀ i₀ pens i =
-    (i ≤ length bytes) × (length pens ≡ length pens₀) × Placed (pairPen bytes) 0 (2 * i) pens₀ pens
+    (i ≤ length bytes) × (length pens ≡ length pens₀) × Placed (paired (pen 4) bytes) 0 (2 * i) pens₀ pens
 
 abbrev μ-loop : tie.MeasureT-loop
 μ-loop bytes pens₀ i₀ pens i = length bytes - i
@@ -58,12 +59,11 @@ loop-less c = search needs
 
 loop-again : tie.Need-loop-again Inv-loop μ-loop
 loop-again c =
-    let l = c .before .before .before .before .before .loop in
-    let bytes = c .before .before .before .before .before .before .before .before .args .bytes .now in (
+    let l = c .before .before .before .before .before .loop in (
       search needs,
       search needs,
-      front-two-more (l .i) (l .inv .2) (search needs) (c .before .before .first-pen .ensures ∙ first-pair bytes (l .i))
-          (c .first-pen2 .ensures ∙ second-pair bytes (l .i)),
+      front-two-more (l .i) (l .inv .2) (search needs) (rw first-value (c .before .before .first-pen .ensures))
+          (rw second-value (c .first-pen2 .ensures ∙ shifted _)),
     )
 
 same-length : tie.Need-same-length Inv-loop μ-loop

@@ -3,16 +3,16 @@ use mathlib.Core.Path.{_≡_}
 use Prim.Native.Nat.{_≤_, _-_, _*_}
 use native.Mathlib.Omega.{arith}
 use lib.ListN.{length, length-set}
-use Rattle.screen.specs.Placing.{doubled, Placed}
+use Rattle.screen.specs.Placing.{paired, copyOf, Placed}
 use Rattle.screen.proofs.Storing.{placed-none, two-more}
-use Rattle.screen.proofs.Doubling.{first-copy, second-copy}
+use Rattle.screen.proofs.Pairs.{first-value, second-value}
 use borrow.Author.Needs.{needs}
 use Rattle.screen.proofs.put_twice.Statement.{statement}
 use Rattle.screen.proofs.put_twice.Tie as tie
 
 abbrev Inv-loop : tie.InvT-loop
 Inv-loop from pens₀ at i₀ pens i =
-    (i ≤ length from) × (length pens ≡ length pens₀) × Placed (doubled from) at (2 * i) pens₀ pens
+    (i ≤ length from) × (length pens ≡ length pens₀) × Placed (paired copyOf from) at (2 * i) pens₀ pens
 
 abbrev μ-loop : tie.MeasureT-loop
 μ-loop from pens₀ at i₀ pens i = length from - i
@@ -55,11 +55,10 @@ loop-less c = search needs
 
 loop-again : tie.Need-loop-again Inv-loop μ-loop
 loop-again c =
-    let l = c .before .before .before .loop in
-    let s = c .before .before .before .before .args in (
+    let l = c .before .before .before .loop in (
       search needs,
       search needs,
-      two-more (l .i) (l .inv .2) (search needs) (first-copy (s .from .now) (l .i)) (second-copy (s .from .now) (l .i)),
+      two-more (l .i) (l .inv .2) (search needs) (rw first-value) (rw second-value),
     )
 
 same-length : tie.Need-same-length Inv-loop μ-loop
