@@ -1,22 +1,21 @@
 -- A line's entries, one after the other.
-use mathlib.Core.Path.{_≡_, refl, sym, _∙_}
-use mathlib.Core.Bool.{true, false}
+use mathlib.Core.Path.{_≡_, refl, _∙_}
 use mathlib.Core.List.{List}
-use Prim.Native.Nat.{ℕ, _+_, _<_, _≤_}
+use Prim.Native.Nat.{ℕ, _+_, _-_, _%_, _<_, _≤_}
 use borrow.Author.Count.{below-more}
 use borrow.Author.Tests.{ne-eqb, lt-ltb, le-ltb, le-leb, lt-leb}
 use native.Mathlib.Omega.{arith}
 use lib.ListN.{length, getD, set}
 use lib.Seq.{getD-set-same, getD-set-other}
 use Rattle.words.proofs.Order.{either-side}
-use Rattle.overlay.specs.Overlay.{pixelOn, firstOn, noLineSprite}
-use Rattle.overlay.specs.Stretches.{Quiet, Clear}
+use Rattle.overlay.specs.Overlay.{divided, firstOn, Kept}
+use Rattle.overlay.specs.Stretches.{coverPixel, firstCover, Ready, Stretched}
 use Rattle.overlay.specs.declared.LineSprite.{LineSprite}
 use Rattle.overlay.specs.declared.LineSprites.{LineSprites}
 use Rattle.overlay.specs.declared.Stretch.{Stretch}
-use Rattle.overlay.proofs.Search.{search-found, search-quiet, search-same}
+use Rattle.overlay.proofs.Search.{search-more, search-found}
 use Rattle.draw.specs.declared.Edges.{Edges}
-use Rattle.draw.specs.Mixing.{outside, mainAt, overAt, mixedAt, Has, Changed}
+use Rattle.draw.specs.Mixing.{mainAt, overAt, coveredAt, mixedAt, Has, Changed}
 
 pub has-none : (f : ℕ → ℕ) (l : List ℕ) → Has f 0 l
 has-none f l = record { entry = λ p h. absurd (omega arith) }
@@ -78,38 +77,60 @@ pub changed-same :
 changed-same c same =
     record { inside = λ x g h. c .inside x g h ∙ same x _ g h; below = c .below; beyond = c .beyond }
 
--- the search at a position x of a stretch, whose first sprites are quiet
-module _ (store : List ℕ) (list : List LineSprite) (x : ℕ) where
-  pub search-starts :
-      {from until first : ℕ} → ((k : ℕ) → k < first → Quiet list from until k) → from ≤ x → x < until → firstOn store list x first ≡ 0
-  search-starts {first = first} quiet past near = search-quiet store list x first (λ k h. quiet k h .none store x past near)
+-- the search at a distance from the stretch's start, among those that cover it: number k's pixel has this place in the store
+module _ (store bases scales : List ℕ) (from d k : ℕ) {place : ℕ} (at : place ≡ divided (getD bases k 0 + d) (getD scales k 0))
+    (none : firstCover store bases scales d k ≡ 0) where
+  abbrev pixel : ℕ
+  pixel = getD store place 0 % 16
 
-  pub sprite-entry :
-      (k n v : ℕ) {p : ℕ} → k < n → firstOn store list x k ≡ 0 →
-      p ≡ pixelOn store (getD list k noLineSprite) x → (p ≡ 0 → ⊥) → 16 + p ≡ overAt store list n x v
-  unfolding overAt
-  sprite-entry k n v {p} h none here opaque = rw (search-found store list x k none here n h opaque, ne-eqb p 0 opaque)
+  its : pixel ≡ coverPixel store bases scales d k
+  unfolding coverPixel
+  its = rw at
 
-  pub no-entry : (n v : ℕ) → firstOn store list x n ≡ 0 → v ≡ overAt store list n x v
-  unfolding overAt
-  no-entry n v none = rw none
+  pub search-on : pixel ≡ 0 → firstCover store bases scales d (k + 1) ≡ 0
+  unfolding firstCover
+  search-on transparent = search-more (coverPixel store bases scales d) k none its transparent
 
--- those after the stretch's last are quiet too
-pub rest-quiet :
-    (store : List ℕ) {list : List LineSprite} {count from : ℕ} {s : Stretch} → Clear list count from s → (x v : ℕ) → from ≤ x →
-    x < s .until → overAt store list (s .last) x v ≡ overAt store list count x v
-unfolding overAt
-rest-quiet store {list} {count} {from} {s} clear x v past near =
-    rw (search-same store list x (s .last) count (clear .bound) (λ k f g. clear .after k f g .none store x past near))
+  pub sprite-entry : (count v : ℕ) → k < count → (pixel ≡ 0 → ⊥) → 16 + pixel ≡ coveredAt store bases scales count from (from + d) v
+  unfolding firstCover coveredAt
+  sprite-entry count v h opaque =
+      let same : from + d - from ≡ d = omega arith in
+      rw (same, search-found (coverPixel store bases scales d) k none its count h opaque, ne-eqb pixel 0 opaque)
+
+pub no-entry :
+    (store bases scales : List ℕ) (count from d v : ℕ) → firstCover store bases scales d count ≡ 0 →
+    v ≡ coveredAt store bases scales count from (from + d) v
+unfolding coveredAt
+no-entry store bases scales count from d v none = let at : from + d - from ≡ d = omega arith in rw (at, none)
+
+-- at the start none has ended
+pub ready-none : {shown : LineSprites} {x : ℕ} → Kept shown → Ready (shown .list) 0 (shown .count) x
+ready-none kept = record { order = omega arith; bound = kept .bound; sized = kept .sized; gone = λ k h. absurd (omega arith) }
+
+-- from one stretch to the next: what has ended has ended further on too
+pub ready-on :
+    {list : List LineSprite} {first count from to : ℕ} {bases scales : List ℕ} {s : Stretch} → Ready list first count from →
+    Stretched list count from to bases scales s → from ≤ s .until → Ready list (s .first) count (s .until)
+ready-on ready stretched h =
+    record {
+      order = stretched .order;
+      bound = ready .bound;
+      sized = ready .sized;
+      gone = λ k g. record { none = λ store p f. stretched .gone k g .none store p (omega arith) };
+    }
+
+-- those that cover a stretch show what the sprites on the line do
+pub stretch-same :
+    (store : List ℕ) {list : List LineSprite} {count from to : ℕ} {bases scales : List ℕ} {s : Stretch} →
+    Stretched list count from to bases scales s → (x v : ℕ) → from ≤ x → x < s .until →
+    coveredAt store bases scales (s .count) from x v ≡ overAt store list count x v
+unfolding coveredAt overAt
+stretch-same store stretched x v past near = rw (stretched .shows store x past near)
 
 -- with no sprite at all nothing is laid
 pub none-laid : (store : List ℕ) (list : List LineSprite) {before : List ℕ} {count from to : ℕ} → count ≡ 0 → Changed (overAt store list count) from to before before
-none-laid store list {count = count} none =
-    record {
-      inside = λ x g h. no-entry store list x count _ (rw none (search-quiet store list x 0 (λ k h. absurd (omega arith))));
-      below = λ x h. refl;
-      beyond = λ x h. refl;
-    }
+unfolding overAt firstOn
+none-laid store list none = record { inside = λ x g h. rw none; below = λ x h. refl; beyond = λ x h. refl }
 
 -- border, then the pens over it, then the sprites over those
 module _ (pens : List ℕ) (shown : LineSprites) (store : List ℕ) (edges : Edges) where

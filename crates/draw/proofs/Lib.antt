@@ -1,3 +1,4 @@
--- What the proofs share: one entry more, and a line's entries from its parts.
+-- What the proofs share: small numbers, one entry more, and a line's entries from its parts.
+pub mod Turns
 pub mod Entries
 pub mod Parts

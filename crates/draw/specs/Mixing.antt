@@ -10,6 +10,7 @@ use Rattle.words.specs.Choice.{if, either, bit}
 use Rattle.crtc.specs.declared.Registers.{Registers}
 use Rattle.crtc.specs.declared.Counters.{Counters}
 use Rattle.overlay.specs.Overlay.{firstOn}
+use Rattle.overlay.specs.Stretches.{firstCover}
 use Rattle.overlay.specs.declared.LineSprite.{LineSprite}
 use Rattle.overlay.specs.declared.LineSprites.{LineSprites}
 use Rattle.draw.specs.declared.Edges.{Edges}
@@ -30,9 +31,17 @@ outside left right x = either (ltb x left) (leb right x)
 abbrev pub mainAt : List ℕ → ℕ → ℕ → ℕ
 mainAt pens scroll x = getD pens (x + 16 - scroll) 0
 
+-- a sprite's pixel over an entry: 0 lets it show
+abbrev pub over : ℕ → ℕ → ℕ
+over pixel v = if (eqb pixel 0) v (16 + pixel)
+
 -- at x, over an entry: the first of n sprites with a pixel there
 unfoldable pub overAt : List ℕ → List LineSprite → ℕ → ℕ → ℕ → ℕ
-overAt store list n x v = if (eqb (firstOn store list x n) 0) v (16 + firstOn store list x n)
+overAt store list n x v = over (firstOn store list x n) v
+
+-- the same of so many that cover a stretch, by its start
+unfoldable pub coveredAt : List ℕ → List ℕ → List ℕ → ℕ → ℕ → ℕ → ℕ → ℕ
+coveredAt store bases scales count from x v = over (firstCover store bases scales (x - from) count) v
 
 -- border, then the first sprite with a pixel there, then the main pen
 unfoldable pub mixedAt : List ℕ → LineSprites → List ℕ → Edges → ℕ → ℕ

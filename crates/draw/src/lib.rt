@@ -2,20 +2,20 @@
 use chip::Chip;
 use crtc::Counters;
 use crtc::Registers;
-use overlay::LineSprite;
 use overlay::LineSprites;
 use overlay::Stretch;
 use words::answer::DONE;
 use words::answer::MODE_THREE;
 use words::answer::WRONG_LENGTH;
 ghost use mathlib.Core.Path.{_≡_};
-ghost use Prim.Native.Nat.{ℕ, _+_, _*_, _%_, _<_, _≤_};
+ghost use Prim.Native.Nat.{_+_, _*_, _%_, _≤_};
 ghost use lib.ListN.{length};
 ghost use Rattle.crtc.specs.Line.{scrollLines};
 ghost use Rattle.picture.specs.Screen.{rowLine};
+ghost use Rattle.overlay.specs.Overlay.{Kept};
+ghost use Rattle.overlay.specs.Stretches.{Covered};
 ghost use Rattle.draw.specs.Drawing.{Draws};
-ghost use Rattle.overlay.specs.Stretches.{Quiet};
-ghost use Rattle.draw.specs.Mixing.{leftOf, rightOf, mainAt, overAt, mixedAt, Has, Changed};
+ghost use Rattle.draw.specs.Mixing.{leftOf, rightOf, mainAt, overAt, coveredAt, mixedAt, Has, Changed};
 
 // Where a line is border, which is below `left` and from `right` on, and where its main screen starts.
 struct Edges {
@@ -48,21 +48,26 @@ fn lay_pens(line: &mut [u8], pens: &[u8], scroll: usize, from: usize, to: usize)
     }
 }
 
-// The sprites of a stretch that starts at `from`: at each position the first of them that isn't transparent there.
-fn lay_stretch(line: &mut [u8], list: [LineSprite; 16], s: Stretch, store: &[u8], from: usize)
-    requires { ⌜ (length (now line) ≡ 640) × (s .first ≤ s .last) × (s .last ≤ 16) × (from ≤ s .until) × (s .until ≤ 640) ⌝ }
-    requires { ⌜ ((k : ℕ) → k < s .first → Quiet list from (s .until) k) ⌝ }
-    ensures { λ r. ⌜ Changed (overAt (now (store .entry)) list (s .last)) from (s .until) (now (line .entry)) (now (line .exit)) ⌝ }
+// The sprites that cover a stretch from `from` on: at each position the first of them that isn't transparent there.
+fn lay_stretch(
+    line: &mut [u8],
+    store: &[u8],
+    bases: &[usize],
+    scales: &[u16],
+    s: Stretch,
+    from: usize,
+)
+    requires { ⌜ (length (now line) ≡ 640) × (length (now store) ≡ 4096) × (length (now bases) ≡ 16) × (length (now scales) ≡ 16) ⌝ }
+    requires { ⌜ (from ≤ s .until) × (s .until ≤ 640) × Covered s from (now bases) (now scales) ⌝ }
+    ensures { λ r. ⌜ Changed (coveredAt (now (store .entry)) (now (bases .entry)) (now (scales .entry)) (s .count) from) from (s .until) (now (line .entry)) (now (line .exit)) ⌝ }
 {
-    let first = s.first;
-    let last = s.last;
-    let until = s.until;
-    'pixel: for x in from..until {
-        for k in first..last {
-            let e = list[k];
-            let pixel = e.pixel(store, x as u16);
+    let count = s.count;
+    let size = s.until - from;
+    'pixel: for d in 0..size {
+        for k in 0..count {
+            let pixel = store[overlay::divided(bases[k] + d, scales[k])] % 16;
             if pixel != 0 {
-                line[x] = 16 + pixel;
+                line[from + d] = 16 + pixel;
                 continue 'pixel;
             }
         }
@@ -71,7 +76,7 @@ fn lay_stretch(line: &mut [u8], list: [LineSprite; 16], s: Stretch, store: &[u8]
 
 // The sprites from one position up to another, stretch by stretch.
 fn lay_sprites(line: &mut [u8], shown: LineSprites, store: &[u8], from: usize, to: usize)
-    requires { ⌜ (length (now line) ≡ 640) × (shown .count ≤ 16) × (from ≤ to) × (to ≤ 640) ⌝ }
+    requires { ⌜ (length (now line) ≡ 640) × (length (now store) ≡ 4096) × (from ≤ to) × (to ≤ 640) × Kept shown ⌝ }
     ensures { λ r. ⌜ Changed (overAt (now (store .entry)) (shown .list) (shown .count)) from to (now (line .entry)) (now (line .exit)) ⌝ }
 {
     let list = shown.list;
@@ -79,17 +84,21 @@ fn lay_sprites(line: &mut [u8], shown: LineSprites, store: &[u8], from: usize, t
     if count == 0 {
         return;
     }
+    let mut bases = [0usize; 16];
+    let mut scales = [0u16; 16];
+    let mut first = 0;
     let mut x = from;
     while x < to {
-        let s = overlay::stretch_from(list, count, x as u16, to);
-        lay_stretch(line, list, s, store, x);
+        let s = overlay::stretch_from(list, first, count, x as u16, to, &mut bases, &mut scales);
+        lay_stretch(line, store, &bases, &scales, s, x);
+        first = s.first;
         x = s.until;
     }
 }
 
 // Each of the 640 entries: border, else the first sprite that isn't transparent there, else the main pen.
 fn mix(line: &mut [u8], pens: &[u8], shown: LineSprites, store: &[u8], edges: Edges)
-    requires { ⌜ (length (now line) ≡ 640) × (length (now pens) ≡ 656) × (shown .count ≤ 16) × (edges .right ≤ 640) × (edges .scroll ≤ 16) ⌝ }
+    requires { ⌜ (length (now line) ≡ 640) × (length (now pens) ≡ 656) × (length (now store) ≡ 4096) × (edges .right ≤ 640) × (edges .scroll ≤ 16) × Kept shown ⌝ }
     ensures { λ r. ⌜ Has (mixedAt (now (pens .entry)) shown (now (store .entry)) edges) 640 (now (line .exit)) ⌝ }
 {
     let left = edges.left;

@@ -1,4 +1,5 @@
--- What the proofs share: signed distances, a sprite's row, the first that shows, and stretches.
+-- What the proofs share: small numbers, signed distances, a sprite's row, the first that shows, and stretches.
+pub mod Turns
 pub mod Distances
 pub mod Rows
 pub mod Search

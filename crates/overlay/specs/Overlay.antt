@@ -2,13 +2,13 @@
 -- sprites that a line can show in a list of its own.
 use mathlib.Core.Path.{_≡_}
 use mathlib.Core.List.{List}
-use Prim.Native.Nat.{ℕ, zero, suc, _+_, _*_, _/_, _%_, _<_, _≤_}
-use lib.Dec.{eqb, ltb}
-use lib.IntN.{ℤ, pos, negsuc, _-ℤ_}
+use Prim.Native.Nat.{ℕ, zero, suc, _+_, _/_, _%_, _<_, _≤_}
+use lib.Dec.{eqb}
+use lib.IntN.{ℤ, pos, _-ℤ_}
 use lib.ListN.{getD}
 use Rattle.words.specs.Choice.{if}
 use Rattle.picture.specs.Sprites.{offSprite}
-use Rattle.picture.specs.SpriteLine.{pixelAt}
+use Rattle.picture.specs.SpriteLine.{xScale, yScale, cellAt, pixelAt}
 use Rattle.picture.specs.declared.sprite.Sprite.{Sprite}
 use Rattle.overlay.specs.declared.LineSprite.{LineSprite}
 use Rattle.overlay.specs.declared.LineSprites.{LineSprites}
@@ -24,39 +24,50 @@ firstPixel store sprites y x n = firstOf (λ k. pixelAt store k (getD sprites k 
 
 -- ---- from here on the sprites on a line as the code keeps them; the promise of drawing cites none of it
 
--- by the distance from the edge, which is signed: what the function gives inside the span, and 0 outside
-abbrev pub within : ℕ → ℤ → (ℕ → ℕ) → ℕ
-within span (pos d) f = if (ltb d span) (f d) 0
-within span (negsuc d) f = 0
+-- a magnification that is not off: 1, 2 or 4
+pub record Magnification (m : ℕ) : Type 0 where
+  pub four : (m ≡ 1 → ⊥) → (m ≡ 2 → ⊥) → m ≡ 4
 
--- the row or column at a distance, or FFFFFFFFh for none: what a function gives for it
-pub record Cell (span quarters : ℕ) (d : ℤ) (r : ℕ) : Type 0 where
-  pub bound : r < 4294967296
-  pub near : (r ≡ 4294967295 → ⊥) → r < 16777216
-  pub gives : (f : ℕ → ℕ) → within span d (λ n. f (n * quarters / 4)) ≡ if (eqb r 4294967295) 0 (f r)
+-- a number divided by a magnification
+abbrev pub divided : ℕ → ℕ → ℕ
+divided n m = if (eqb m 1) n (if (eqb m 2) (n / 2) (n / 4))
+
+-- the row at a distance, or 16 for none: what a function gives for it
+pub record Cell (scale : ℕ) (d : ℤ) (r : ℕ) : Type 0 where
+  pub bound : r ≤ 16
+  pub gives : (f : ℕ → ℕ) → cellAt scale d f ≡ if (eqb r 16) 0 (f r)
+
+-- the row of a sprite that line y shows: with 16 it shows nothing there, else it is magnified across, and the row is the one at
+-- the distance
+pub record OnLine (s : Sprite) (y r : ℕ) : Type 0 where
+  pub bound : r ≤ 16
+  pub none : r ≡ 16 → (store : List ℕ) (n x : ℕ) → pixelAt store n s y x ≡ 0
+  pub across : (r ≡ 16 → ⊥) → Magnification (xScale s)
+  pub down : (r ≡ 16 → ⊥) → Cell (yScale s) (pos y -ℤ s .y) r
 
 -- the pixel at x of a sprite on a line
 unfoldable pub pixelOn : List ℕ → LineSprite → ℕ → ℕ
-pixelOn store e x =
-    within (e .span) (pos x -ℤ e .x) (λ d. getD store (e .pixels + d * e .quarters / 4) 0 % 16)
+pixelOn store e x = cellAt (e .magnification) (pos x -ℤ e .x) (λ column. getD store (e .pixels + column) 0 % 16)
 
 -- what shows nowhere
 abbrev pub noLineSprite : LineSprite
-noLineSprite = record { x = pos 0; span = 0; quarters = 0; pixels = 0 }
+noLineSprite = record { x = pos 0; magnification = 0; pixels = 0 }
 
 -- the pixel at x of the first of so many that has one, else 0
 unfoldable pub firstOn : List ℕ → List LineSprite → ℕ → ℕ → ℕ
 firstOn store list x count = firstOf (λ k. pixelOn store (getD list k noLineSprite) x) count
 
--- sprite n on line y shows what sprite n has there
-pub record Row (s : Sprite) (n y : ℕ) (r : LineSprite) : Type 0 where
-  pub same : (store : List ℕ) (x : ℕ) → pixelOn store r x ≡ pixelAt store n s y x
+-- one that is kept has a magnification, and the 16 pixels of its row lie in the store
+pub record Sized (e : LineSprite) : Type 0 where
+  pub magnified : Magnification (e .magnification)
+  pub stored : e .pixels ≤ 4080
 
--- a sprite that shows nothing on the line needs no place in the list
-abbrev pub keptOf : LineSprite → ℕ
-keptOf e = if (eqb (e .span) 0) 0 1
+-- so many of a list of sixteen are kept
+pub record Kept (r : LineSprites) : Type 0 where
+  pub bound : r .count ≤ 16
+  pub sized : (k : ℕ) → k < r .count → Sized (getD (r .list) k noLineSprite)
 
 -- at every x the sprites on a line show what the sixteen have there; which of them have a place in the list is left open
 pub record Overlay (sprites : List Sprite) (y : ℕ) (r : LineSprites) : Type 0 where
-  pub bound : r .count ≤ 16
+  pub kept : Kept r
   pub first : (store : List ℕ) (x : ℕ) → firstOn store (r .list) x (r .count) ≡ firstPixel store sprites y x 16

@@ -30,31 +30,37 @@ returns-4 c =
     (simp (eq-eqb _ _ (l .before .before .if1 .left), eq-eqb _ _ (l .before .if2 .left), eq-eqb _ _ (l .if3 .left), eq-eqb _ _ (c .if4 .taken)))
 
 row-line-requires : tie.Need-row-line-requires
-row-line-requires c κs = search needs
+row-line-requires c κs = tt
 
 line-pens-requires : tie.Need-line-pens-requires
-line-pens-requires c κs = search needs
+line-pens-requires c κs = tt
 
 frame-line-requires : tie.Need-frame-line-requires
-frame-line-requires c κs = search needs
+frame-line-requires c κs = tt
 
 line-sprites-requires : tie.Need-line-sprites-requires
-line-sprites-requires c κs = search needs
+line-sprites-requires c κs = tt
 
 left-of-requires : tie.Need-left-of-requires
-left-of-requires c κs = search needs
+left-of-requires c κs = tt
 
 right-of-requires : tie.Need-right-of-requires
-right-of-requires c κs = search needs
+right-of-requires c κs = tt
 
 scroll-of-requires : tie.Need-scroll-of-requires
-scroll-of-requires c κs = search needs
+scroll-of-requires c κs = tt
 
 slice-aggregate-mix : tie.Need-slice-aggregate-mix
 slice-aggregate-mix c = search needs
 
 mix-requires : tie.Need-mix-requires
-mix-requires c κs = search needs
+mix-requires c κs =
+    let s = c .before .before in
+    let r = s .before in
+    let o = r .before .before in
+    let p = o .before .before .before in
+    let e = p .before .before .before .before .before .before .before in
+    (e .if3 .left, p .line-pens .ensures .size, e .before .if2 .left, r .right-of .ensures .1, rw (s .scroll-of .ensures) (omega arith), o .line-sprites .ensures .kept)
 
 same-length : tie.Need-same-length
 same-length c = search needs

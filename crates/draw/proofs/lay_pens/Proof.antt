@@ -1,10 +1,13 @@
 -- `draw::lay_pens`: before turn x the pens below x are laid.
-use borrow.Author.Needs.{needs}
+use borrow.Author.Count.{falls}
+use native.Mathlib.Nat.{le-refl, le-trans, le-add-right, lt-of-lt-of-le}
 use native.Mathlib.Omega.{arith}
-use mathlib.Core.Path.{_≡_, refl}
+use mathlib.Core.Path.{_≡_, refl, sym, _∙_}
 use Prim.Native.Nat.{_≤_, _-_}
-use lib.ListN.{length}
+use lib.ListN.{length, length-set}
+use Rattle.overlay.proofs.Turns.{next-le}
 use Rattle.draw.specs.Mixing.{mainAt, Changed}
+use Rattle.draw.proofs.Turns.{next-fits, on-line, pen-fits, pen-place, pen-at}
 use Rattle.draw.proofs.Entries.{changed-none, changed-more}
 use Rattle.draw.proofs.lay_pens.Statement.{statement}
 use Rattle.draw.proofs.lay_pens.Tie as tie
@@ -16,31 +19,39 @@ abbrev μ-loop : tie.MeasureT-loop
 μ-loop line₀ pens scroll from to x₀ line x = to - x
 
 loop-holds : tie.Need-loop-holds Inv-loop μ-loop
-loop-holds c = (search needs, search needs, search needs, changed-none)
+loop-holds c = (le-refl _, c .pre .3, c .pre .0, changed-none)
 
 add-line : tie.Need-add-line Inv-loop μ-loop
-add-line c = search needs
+add-line c = pen-fits (c .loop-test .taken) (c .before .before .pre .4)
 
 sub-line : tie.Need-sub-line Inv-loop μ-loop
-sub-line c = search needs
+sub-line c = pen-place (c .before .loop .x) (c .before .before .pre .2)
 
 shared-slice-read-line : tie.Need-shared-slice-read-line Inv-loop μ-loop
-shared-slice-read-line c = search needs
+shared-slice-read-line c =
+    let w = c .before .before .before in
+    pen-at (c .before .loop-test .taken) (w .pre .4) (w .args .pens .now) (w .args .scroll) (w .pre .1)
 
 slice-write-line : tie.Need-slice-write-line Inv-loop μ-loop
-slice-write-line c = search needs
+slice-write-line c =
+    let l = c .before .before in
+    on-line (l .loop .line) (lt-of-lt-of-le (c .before .loop-test .taken) (l .before .pre .4)) (l .loop .inv .2)
 
 add-x : tie.Need-add-x Inv-loop μ-loop
-add-x c = search needs
+add-x c = next-fits (c .before .loop-test .taken) (c .before .before .before .pre .4)
 
 loop-less : tie.Need-loop-less Inv-loop μ-loop
-loop-less c = search needs
+loop-less c = falls _ _ (c .before .loop-test .taken)
 
 loop-again : tie.Need-loop-again Inv-loop μ-loop
-loop-again c = (search needs, search needs, search needs, changed-more (c .before .before .loop .inv .3) (search needs) (search needs) refl)
+loop-again c =
+    let l = c .before .before in
+    let less = c .before .loop-test .taken in
+    let room = on-line (l .loop .line) (lt-of-lt-of-le less (l .before .pre .4)) (l .loop .inv .2) in
+    (le-trans (l .loop .inv .0) (le-add-right _ _), next-le less, simp length-set (l .loop .inv .2), changed-more (l .loop .inv .3) (l .loop .inv .0) room refl)
 
 same-length : tie.Need-same-length Inv-loop μ-loop
-same-length c = search needs
+same-length c = c .before .loop .inv .2 ∙ sym (c .before .before .pre .0)
 
 returns : tie.Need-returns Inv-loop μ-loop
 returns c = let last : c .before .loop .x ≡ c .before .before .args .to = omega arith in rw last at (c .before .loop .inv .3)

@@ -1,11 +1,12 @@
 -- `draw::mix`: border, then the pens over it, then the sprites over those.
 use borrow.Author.Needs.{needs}
+use native.Mathlib.Nat.{le-of-lt}
 use Rattle.draw.proofs.Entries.{border-mixed, all-mixed}
 use Rattle.draw.proofs.mix.Statement.{statement}
 use Rattle.draw.proofs.mix.Tie as tie
 
 fill-border-requires : tie.Need-fill-border-requires
-fill-border-requires c κs = search needs
+fill-border-requires c κs = c .before .before .before .before .pre .0
 
 same-length : tie.Need-same-length
 same-length c = search needs
@@ -14,10 +15,14 @@ returns : tie.Need-returns
 returns c = border-mixed _ _ _ _ (c .if1 .taken) (c .before .before .before .fill-border .ensures)
 
 lay-pens-requires : tie.Need-lay-pens-requires
-lay-pens-requires c κs = search needs
+lay-pens-requires c κs =
+    let p = c .before .before .before .before .before .before .before .before .before .pre in
+    (search needs, p .1, p .4, le-of-lt (c .before .if1 .left), p .3)
 
 lay-sprites-requires : tie.Need-lay-sprites-requires
-lay-sprites-requires c κs = search needs
+lay-sprites-requires c κs =
+    let p = c .before .before .before .before .before .before .before .before .before .before .before .before .before .pre in
+    (search needs, p .2, le-of-lt (c .before .before .before .before .before .if1 .left), p .3, p .5)
 
 same-length-2 : tie.Need-same-length-2
 same-length-2 c = search needs
