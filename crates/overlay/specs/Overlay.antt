@@ -28,7 +28,7 @@ firstPixel store sprites y x n = firstOf (λ k. pixelAt store k (getD sprites k 
 pub record Magnification (m : ℕ) : Type 0 where
   pub four : (m ≡ 1 → ⊥) → (m ≡ 2 → ⊥) → m ≡ 4
 
--- a number divided by a magnification
+-- a number divided by a magnification, which is 1, 2 or 4; any other counts as 4
 abbrev pub divided : ℕ → ℕ → ℕ
 divided n m = if (eqb m 1) n (if (eqb m 2) (n / 2) (n / 4))
 
