@@ -1,10 +1,11 @@
-/* The Plus chip core. Link libplus.a, which `rt staticlib plus` builds.
+/* The Plus chip core, for x86-64 Linux. Link libplus.a, which `rt staticlib plus` builds, or what `plus install` puts down.
  *
  * The chip's state goes in by value and comes back in the answer; the library keeps nothing between calls. Every call but
- * plus_reset, plus_grey, plus_take_pack, plus_take_unpack and plus_take_record, which can't be refused, has an answer number. With
- * a refusal, that is any other than 0, the state and the buffers are as they were and every other number in the answer is 0, but
- * for the number of a bad line or of a bad record; plus_replay, which is given no state, hands back the one after reset then. Any
- * contents of the structs are served, but a bool must be 0 or 1.
+ * plus_built, plus_reset, plus_grey, plus_take_pack and plus_take_unpack, which can't be refused, has an answer
+ * number; plus_answer_text says in words what it means. With a refusal, that is any other than 0, the state and the buffers are as
+ * they were and every other number in the answer is 0, but for the number of a bad line or of a bad record; plus_replay, which is
+ * given no state, hands back the one after reset then. Any contents of the structs are served, but a bool must be 0 or 1. A host
+ * that could be linked with another library than its header's asks plus_fits first.
  *
  * A buffer is a pointer, never NULL, and its length: PLUS_RAM bytes for RAM, PLUS_STORE for the sprite pixel store, PLUS_LINE for
  * a drawn line, PLUS_EXPORT for an export. A text and a take have any number of bytes, and the length of sound words and of
@@ -14,6 +15,15 @@
  * as the last call left them, to every page write and undo of that chip. They need not be set at first, nor after a reset. The
  * newest is at place editing.undo.next - 1 (255 where that is 0), the one before it at the place before, and so on round, as
  * many as editing.undo.count says; each is the address written to, times 256, plus the register's contents before.
+ *
+ * A slider sends an event for every step of a gesture, and each write is kept by itself: a long gesture fills the places, and takes
+ * as many undos to take back. To keep one entry a gesture, take back the last event's write before each further one:
+ *
+ *     if (!first_event) chip = plus_undo(chip, store, PLUS_STORE, places).chip;
+ *     chip = plus_page_write(chip, store, PLUS_STORE, places, address, value).chip;
+ *
+ * The entry then has the contents from before the gesture, and one undo brings them back. Between two events no other page write
+ * may be made, since undo would take back that one. DCSR is not kept, so it needs none of this.
  *
  * A take is a file: a comment of any bytes, records of PLUS_TAKE_RECORD bytes, and a trailer of PLUS_TAKE_TRAILER bytes, which has
  * the record count, the offset of the first record, 4 bytes each, and the letters PLTK. A record has the line number in 4 bytes,
@@ -28,6 +38,12 @@
 #ifdef __cplusplus
 extern "C" {
 #endif
+
+/* The version of this header: 10000 times the major number, 100 times the minor one, and the patch. Another patch changes nothing
+ * that a caller could see; with another minor or major number a struct may have another layout, the state above all. What each
+ * version changes for a caller is in CHANGELOG.md. */
+#define PLUS_VERSION 900
+#define PLUS_VERSION_TEXT "0.9.0"
 
 enum { PLUS_RAM = 65536, PLUS_STORE = 4096, PLUS_LINE = 640, PLUS_EXPORT = 477, PLUS_PLACES = 256 };
 
@@ -45,7 +61,7 @@ enum {
     PLUS_DONE = 0,             /* done */
     PLUS_WRONG_LENGTH = 1,     /* a buffer has another length than its call wants */
     PLUS_NOT_MAPPED = 2,       /* the page is not mapped, or the address is not in it (4000h to 7FFFh) */
-    PLUS_NOTHING_THERE = 3,    /* no register there that could be written */
+    PLUS_NOTHING_THERE = 3,    /* no register there that could be written, or no record with that number */
     PLUS_MODE_THREE = 4,       /* a line in screen mode 3 can't be drawn */
     PLUS_NO_INTERRUPT = 5,     /* nothing to acknowledge */
     PLUS_NO_STOP = 6,          /* the list has no STOP up to the end of RAM */
@@ -182,7 +198,6 @@ typedef struct {
 } PlusAcknowledged;
 
 typedef struct {
-    PlusChip chip;
     uint8_t answer;
     uint8_t byte;
 } PlusByteRead;
@@ -237,6 +252,11 @@ typedef struct {
 } PlusOpened;
 
 typedef struct {
+    uint8_t answer;
+    PlusRecord record; /* all 0 where it is refused */
+} PlusRecordRead;
+
+typedef struct {
     PlusChip chip; /* after the last record */
     uint8_t answer;
     size_t bad;                   /* with 13 the first bad record, from 1 */
@@ -244,7 +264,15 @@ typedef struct {
     uint32_t counts[PLUS_COUNTS]; /* how often each number refused a record's call; nothing is counted at 0 */
 } PlusReplayed;
 
+typedef struct {
+    uint32_t version; /* PLUS_VERSION of the library's own header */
+    uint32_t state;   /* bytes of a PlusChip, as the library has it */
+} PlusBuilt;
+
 /* The calls. */
+
+/* What the library was built with. No answer number. */
+PlusBuilt plus_built(void);
 
 /* The chip after reset, with nothing to undo. No answer number: nothing can refuse it. */
 PlusChip plus_reset(void);
@@ -291,8 +319,8 @@ uint8_t plus_grey(uint8_t low, uint8_t high);
 /* The length of the sound list at a start address, before it plays, and the least and the most of its cycles. Answers 0, 1 or 6. */
 PlusLength plus_forecast(const uint8_t *ram, size_t ram_length, uint16_t start, uint8_t prescale);
 
-/* Prints sound words as text, a line each. Room for PLUS_LONGEST_LINE bytes a word is always enough; what lies beyond the text
- * stays. Answers 0 or 8. */
+/* Prints sound words as text, a line each, which plus_read reads as the same words. Room for PLUS_LONGEST_LINE bytes a word is
+ * always enough; what lies beyond the text stays. Answers 0 or 8. */
 PlusPrinted plus_print(const uint16_t *words, size_t words_length, uint8_t *text, size_t text_length);
 
 /* Reads such a text back; what lies beyond the words stays. No other text is read, so that printing the words gives it again. A
@@ -306,8 +334,8 @@ uint64_t plus_take_pack(PlusRecord record);
 /* The record in such a number; every number has one. No answer number. */
 PlusRecord plus_take_unpack(uint64_t number);
 
-/* Writes a take: the comment, the records and the trailer. It has comment_length + PLUS_TAKE_RECORD * records_length +
- * PLUS_TAKE_TRAILER bytes; what lies beyond it stays. Answers 0, 13 or 14. */
+/* Writes a take: the comment, the records and the trailer. plus_take_open opens it, with the same comment and records. It has
+ * comment_length + PLUS_TAKE_RECORD * records_length + PLUS_TAKE_TRAILER bytes; what lies beyond it stays. Answers 0, 13 or 14. */
 PlusWritten plus_take_write(const uint8_t *comment, size_t comment_length, const uint64_t *records, size_t records_length,
                             uint8_t *output, size_t output_length);
 
@@ -315,15 +343,46 @@ PlusWritten plus_take_write(const uint8_t *comment, size_t comment_length, const
  * 12 or 13. */
 PlusOpened plus_take_open(const uint8_t *file, size_t file_length);
 
-/* The record of a take with a number, from 1. With any other number than 1 to the count, and in a file that plus_take_open answers
- * 11 or 12 for, the record that is all 0, which has no kind. No answer number. */
-PlusRecord plus_take_record(const uint8_t *file, size_t file_length, size_t number);
+/* The record of a take with a number, from 1, whether or not a record is bad. In a file that plus_take_open answers 11 or 12 for it
+ * answers that, and then 3 with any other number than 1 to the count. Answers 0, 3, 11 or 12. */
+PlusRecordRead plus_take_record(const uint8_t *file, size_t file_length, size_t number);
 
 /* Plays a take from reset, record by record: lines are stepped, with the processor off the 8255 and nothing drawn, until there are
  * as many as the record's line number says, and its call is made. A call that is refused is counted and passed over. The whole take
  * is tested before anything is played. The places are then those of the chip it gives. Answers 0, 1, 11, 12 or 13. */
 PlusReplayed plus_replay(const uint8_t *ram, size_t ram_length, uint8_t *store, size_t store_length, uint32_t places[PLUS_PLACES],
                          const uint8_t *file, size_t file_length);
+
+/* In this header alone. */
+
+/* Whether the library is the one that this header is of. A host asks once, before any other call: an older library links without a
+ * word, and its structs may have another layout. */
+static inline bool plus_fits(void) {
+    PlusBuilt built = plus_built();
+    return built.version == PLUS_VERSION && built.state == sizeof(PlusChip);
+}
+
+/* What an answer number means, in a few words. */
+static inline const char *plus_answer_text(uint8_t number) {
+    static const char *const texts[] = {
+        "done",
+        "a buffer has another length than its call wants",
+        "the page is not mapped, or the address is not in it",
+        "no register there that could be written, or no such record",
+        "a line in screen mode 3 can't be drawn",
+        "no interrupt is waiting",
+        "the list has no STOP up to the end of RAM",
+        "a line of the text is no word's",
+        "the buffer has no room for all of it",
+        "a converter is there, which can only be read",
+        "no page write is left that could be undone",
+        "the file has no trailer",
+        "the records don't end where the trailer begins",
+        "a record is bad",
+        "there is no room for the take",
+    };
+    return number < sizeof texts / sizeof texts[0] ? texts[number] : "a number that this version doesn't answer";
+}
 
 #ifdef __cplusplus
 }

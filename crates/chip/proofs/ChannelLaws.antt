@@ -1,15 +1,14 @@
--- Which calls leave a sound channel alone: port writes touch no channel, and an acknowledge clears at most its interrupt.
-use mathlib.Core.Path.{_≡_, refl}
+-- An acknowledge clears at most a channel's interrupt.
+use mathlib.Core.Path.{refl}
 use mathlib.Core.Bool.{Bool, true, false}
 use Prim.Native.Nat.{ℕ}
 use lib.Dec.{leb}
-use Rattle.words.specs.Choice.{if, either, bit}
-use Rattle.words.proofs.Lists.{after-set}
+use Rattle.common.specs.Choice.{if, either, bit}
+use Rattle.common.proofs.Lists.{after-set}
 use Rattle.sound.specs.declared.Channel.{Channel}
 use Rattle.sound.specs.Line.{channelOf, offChannel}
 use Rattle.chip.specs.declared.Chip.{Chip}
-use Rattle.chip.specs.Channels.{Keeps, LeftAlone, Aside}
-use Rattle.chip.specs.Ports.{selected, dataWritten, gateWritten}
+use Rattle.chip.specs.Channels.{Aside}
 use Rattle.chip.specs.Interrupts.{ofRaster, channelFor, sourceOn, cleared, withCleared, soundServed, acknowledged}
 
 -- a channel with at most its interrupt changed
@@ -34,18 +33,6 @@ flagged d =
 
 pub aside-self : (d : Channel) → Aside d d
 aside-self d = flagged d
-
-pub select-sound : (c : Chip) (b : ℕ) → selected c b .sound ≡ c .sound
-unfolding selected
-select-sound c b = refl
-
-pub data-sound : (c : Chip) (b : ℕ) → dataWritten c b .sound ≡ c .sound
-unfolding dataWritten
-data-sound c b = refl
-
-pub gate-sound : (c : Chip) (b : ℕ) → gateWritten c b .sound ≡ c .sound
-unfolding gateWritten
-gate-sound c b = refl
 
 -- channel n over an acknowledge, whichever source is served
 module _ (c : Chip) (n : ℕ) where

@@ -4,7 +4,7 @@ use mathlib.Core.Bool.{Bool, true, false, not}
 use Prim.Native.Nat.{ℕ, _<_}
 use native.Mathlib.Omega.{arith}
 use lib.Dec.{eqb}
-use Rattle.words.specs.Choice.{if, both}
+use Rattle.common.specs.Choice.{if, both}
 use Rattle.sound.specs.declared.Sound.{Sound}
 use Rattle.chip.specs.Interrupts.{waiting, ofRaster, ofChannel, nobody, sourceOf}
 

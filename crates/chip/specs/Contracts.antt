@@ -1,7 +1,7 @@
 -- 01, "Numbers a call can answer": the form of the calls' promises. A refusal leaves the chip as it was.
 use mathlib.Core.Path.{_≡_}
 use Prim.Native.Nat.{ℕ}
-use Rattle.words.specs.Answers.{served}
+use Rattle.common.specs.Answers.{served}
 use Rattle.chip.specs.declared.Chip.{Chip}
 use Rattle.chip.specs.declared.Answered.{Answered}
 

@@ -4,7 +4,7 @@ use mathlib.Core.Bool.{Bool, false, not}
 use Prim.Native.Nat.{ℕ, _+_, _-_, _*_, _/_}
 use lib.Dec.{eqb, leb}
 use lib.ListN.{set}
-use Rattle.words.specs.Choice.{if, both, either, bit}
+use Rattle.common.specs.Choice.{if, both, either, bit}
 use Rattle.sound.specs.declared.Channel.{Channel}
 use Rattle.sound.specs.declared.Sound.{Sound}
 use Rattle.sound.specs.Channels.{withFlags}
@@ -13,7 +13,7 @@ use Rattle.chip.specs.declared.Chip.{Chip}
 use Rattle.chip.specs.declared.Interrupts.{Interrupts}
 use Rattle.chip.specs.declared.Acknowledged.{Acknowledged}
 use Rattle.chip.specs.State.{withInterrupts, withSound}
-use Rattle.words.specs.Answers.{done, noInterrupt, served}
+use Rattle.common.specs.Answers.{done, noInterrupt, served}
 
 -- channel n's interrupt waits
 abbrev pub waiting : Sound → ℕ → Bool

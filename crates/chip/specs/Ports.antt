@@ -1,17 +1,16 @@
 -- 01, "Lock and ports": the BCxx write, the 6845 data write, the 7Fxx write.
-use mathlib.Core.Path.{_≡_}
 use mathlib.Core.Bool.{Bool, not}
 use mathlib.Core.List.{List, _∷_}
 use Prim.Native.Nat.{ℕ, _/_, _%_}
 use lib.Dec.{eqb}
-use Rattle.words.specs.Choice.{if, both, either, bit}
+use Rattle.common.specs.Choice.{if, both, either, bit}
 use Rattle.lock.specs.Machine.{fed, Tracks}
 use Rattle.crtc.specs.Registers.{hasRegister, written}
 use Rattle.chip.specs.declared.Gate.{Gate}
 use Rattle.chip.specs.declared.Chip.{Chip}
 use Rattle.chip.specs.declared.Answered.{Answered}
 use Rattle.chip.specs.State.{withLock, withGate, withCrtc, withRegisters, withRaster}
-use Rattle.words.specs.Answers.{done, nothingThere}
+use Rattle.common.specs.Answers.{done, nothingThere}
 use Rattle.chip.specs.Contracts.{Answers}
 
 -- a BCxx byte selects a 6845 register by its low 5 bits and feeds the lock

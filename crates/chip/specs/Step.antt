@@ -5,7 +5,7 @@ use mathlib.Core.List.{List, [], _∷_}
 use Prim.Native.Nat.{ℕ, _≤_}
 use lib.Dec.{eqb}
 use lib.ListN.{length}
-use Rattle.words.specs.Choice.{if, either}
+use Rattle.common.specs.Choice.{if, either}
 use Rattle.sound.specs.declared.Accesses.{Accesses}
 use Rattle.sound.specs.declared.Report.{Report}
 use Rattle.sound.specs.declared.Sound.{Sound}
@@ -18,24 +18,25 @@ use Rattle.chip.specs.declared.Chip.{Chip}
 use Rattle.chip.specs.declared.Stepped.{Stepped}
 use Rattle.chip.specs.declared.line.Moved.{Moved}
 use Rattle.chip.specs.State.{withSound, withCounters, withRaster}
-use Rattle.words.specs.Answers.{done, wrongLength, served}
+use Rattle.common.specs.Answers.{done, wrongLength, served}
+use Rattle.common.specs.Sizes.{ramBytes}
 
--- RAM has 65,536 bytes
+-- RAM of another length is refused
 unfoldable pub stepAnswer : List ℕ → ℕ
-stepAnswer ram = if (eqb (length ram) 65536) done wrongLength
+stepAnswer ram = if (eqb (length ram) ramBytes) done wrongLength
 
 -- each channel reported as sitting out, and no cycles
 unfoldable pub idleReport : Report
 idleReport = record { cycles = 0; entries = entryOf SatOut ∷ entryOf SatOut ∷ entryOf SatOut ∷ [] }
 
 -- raster compare, split compare and counters; a raised interrupt waits beside one that waits already
-unfoldable pub counted : Chip → Chip
-counted c =
+unfoldable pub countersStepped : Chip → Chip
+countersStepped c =
     withRaster (withCounters c (lineOf (c .crtc .registers) (c .video) (c .crtc .counters) .counters))
     (either (lineOf (c .crtc .registers) (c .video) (c .crtc .counters) .raster) (c .interrupts .raster))
 
 unfoldable pub stepped : List ℕ → Chip → Chip
-stepped ram c = counted (withSound c (soundAfter ram (c .sound)))
+stepped ram c = countersStepped (withSound c (soundAfter ram (c .sound)))
 
 -- the parts that a line moves, by themselves
 pub record Moves (s : Sound) (k : Crtc) (v : Video) (ram : List ℕ) (a : Accesses) (r : Moved) : Type 0 where

@@ -1,9 +1,9 @@
 // Interrupt acknowledge.
 use crate::Acknowledged;
 use crate::Chip;
+use common::answer::DONE;
+use common::answer::NO_INTERRUPT;
 use sound::Sound;
-use words::answer::DONE;
-use words::answer::NO_INTERRUPT;
 ghost use mathlib.Core.Path.{_≡_};
 ghost use Prim.Native.Nat.{_<_};
 ghost use Rattle.chip.specs.Interrupts.{sourceOf, vectorOf, soundServed, Acknowledges};

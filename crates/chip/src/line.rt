@@ -2,6 +2,9 @@
 use crate::Chip;
 use crate::Crtc;
 use crate::Stepped;
+use common::answer::DONE;
+use common::answer::WRONG_LENGTH;
+use common::size::RAM;
 use crtc::Counters;
 use crtc::Video;
 use sound::Accesses;
@@ -9,8 +12,6 @@ use sound::Did;
 use sound::Entry;
 use sound::Report;
 use sound::Sound;
-use words::answer::DONE;
-use words::answer::WRONG_LENGTH;
 ghost use mathlib.Core.Path.{_≡_};
 ghost use Rattle.chip.specs.Step.{idleReport, Moves, Steps};
 
@@ -37,7 +38,7 @@ pub fn advance(sound: Sound, crtc: Crtc, video: Video, ram: &[u8], accesses: Acc
     ensures { λ r. ⌜ Moves sound crtc video (now (ram .entry)) accesses r ⌝ }
 {
     let before = crtc.counters;
-    if ram.len() != 65536 {
+    if ram.len() != RAM {
         return Moved {
             sound,
             counters: before,

@@ -2,8 +2,8 @@
 use crate::Answered;
 use crate::Chip;
 use crate::Gate;
-use words::answer::DONE;
-use words::answer::NOTHING_THERE;
+use common::answer::DONE;
+use common::answer::NOTHING_THERE;
 ghost use mathlib.Core.Path.{_≡_};
 ghost use Rattle.chip.specs.Contracts.{Answers};
 ghost use Rattle.chip.specs.Ports.{Selects, dataAnswer, dataWritten, gateAnswer, gateAfter, gateWritten};

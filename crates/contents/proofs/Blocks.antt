@@ -2,11 +2,11 @@
 -- serves only the proofs: "for every two registers" then comes from the laws of one list.
 use mathlib.Core.Path.{_≡_, refl, ap, sym, _∙_}
 use mathlib.Core.List.{List, [], _∷_, map}
-use Prim.Native.Nat.{ℕ, zero, suc, _+_, _*_, _/_, _%_, _<_}
+use Prim.Native.Nat.{ℕ, zero, suc, _*_, _/_, _%_, _<_}
 use native.Mathlib.Omega.{arith}
 use lib.ListN.{length, getD, set}
-use lib.Seq.{getD-set-same, getD-set-other}
-use Rattle.words.proofs.Lists.{after-set}
+use lib.Seq.{getD-set-other}
+use Rattle.common.proofs.Lists.{after-set}
 use Rattle.sound.specs.declared.Channel.{Channel}
 use Rattle.sound.specs.Line.{channelOf, offChannel}
 use Rattle.crtc.specs.declared.Video.{Video}
@@ -147,10 +147,6 @@ module _ (bytes : List (List (List ℕ))) (p : Place) (b : ℕ) where
       (λ e. after-set (λ l. getD l (q .byte) 0 ≡ byteAt bytes q) (getD bytes (p .block) []) (p .unit) (q .unit) _ []
       (rw e)
       (λ f. rw (getD-set-other (getD (getD bytes (p .block) []) (p .unit) []) (p .byte) (q .byte) b 0 (h e f)) (rw (e, f))))
-
-  pub at-same : p .block < length bytes → p .unit < length (getD bytes (p .block) []) →
-      p .byte < length (getD (getD bytes (p .block) []) (p .unit) []) → byteAt (setAt bytes p b) p ≡ b
-  at-same h i j = rw (getD-set-same bytes (p .block) _ [] h, getD-set-same (getD bytes (p .block) []) (p .unit) _ [] i, getD-set-same (getD (getD bytes (p .block) []) (p .unit) []) (p .byte) b 0 j)
 
 -- of the bytes of several units, one byte of one unit set
 one-set : {A : Type 0} (f : A → List ℕ) (l : List A) (n p v : ℕ) (y d : A) → f y ≡ set (f (getD l n d)) p v →

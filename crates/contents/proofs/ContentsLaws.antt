@@ -2,18 +2,17 @@
 use mathlib.Core.Path.{_≡_, refl, ap, sym, _∙_}
 use mathlib.Core.Bool.{Bool, true, false}
 use mathlib.Core.List.{List, [], _∷_, map}
-use Prim.Native.Nat.{ℕ, zero, suc, _*_, _/_, _%_, _<_}
+use Prim.Native.Nat.{ℕ, zero, suc, _%_, _<_}
 use native.Mathlib.Nat.{mod-mod}
 use native.Mathlib.Omega.{arith}
 use lib.Dec.{eqb}
 use lib.ListN.{length, getD, set}
 use lib.Seq.{getD-set-same}
-use Rattle.words.specs.Choice.{if}
+use Rattle.common.specs.Choice.{if}
 use Rattle.picture.specs.Palette.{keptByte}
 use Rattle.picture.specs.Sprites.{spriteBytes}
 use Rattle.picture.proofs.SpriteBytes.{sprite-kept}
 use Rattle.chip.specs.declared.Chip.{Chip}
-use Rattle.registers.specs.declared.address.VideoRegister.{VideoRegister}
 use Rattle.registers.specs.declared.address.VideoRegister.the-variants.{Pri, SplitLine, SplitHigh, SplitLow, Sscr}
 use Rattle.registers.specs.declared.address.ChannelRegister.{ChannelRegister}
 use Rattle.registers.specs.declared.address.ChannelRegister.the-variants.{StartLow, StartHigh, Prescale}

@@ -2,7 +2,7 @@
 -- pixels, sprites, palette, screen registers, IVR, start addresses and prescales.
 use mathlib.Core.Path.{_≡_, refl, sym, _∙_}
 use mathlib.Core.List.{List}
-use Prim.Native.Nat.{ℕ, _/_, _%_, _*_, _<_}
+use Prim.Native.Nat.{ℕ}
 use native.Mathlib.Nat.{mod-eq-of-lt}
 use native.Mathlib.Omega.{arith}
 use lib.ListN.{length, getD}
@@ -15,7 +15,7 @@ use Rattle.chip.specs.declared.Chip.{Chip}
 use Rattle.registers.specs.declared.address.VideoRegister.the-variants.{Pri, SplitLine, SplitHigh, SplitLow, Sscr}
 use Rattle.registers.specs.declared.address.ChannelRegister.the-variants.{StartLow, StartHigh, Prescale}
 use Rattle.registers.specs.declared.address.Register.{Register}
-use Rattle.registers.specs.declared.address.Register.the-variants.{Pixel, Sprite as SpriteAt, Palette, Video as VideoAt, Ivr, Converter, Channel as ChannelAt, Dcsr, Status, Empty}
+use Rattle.registers.specs.declared.address.Register.the-variants.{Pixel, Sprite as SpriteAt, Palette, Video as VideoAt, Ivr, Channel as ChannelAt}
 use Rattle.contents.specs.Contents.{contents}
 use Rattle.contents.specs.Widths.{Widths}
 

@@ -1,67 +1,102 @@
--- 02, L5: what a page read shows is a function of the register's contents and, for the high byte of a coordinate, of its sign.
+-- 02, L5: of a chip within the widths a page read shows what the register's contents, DCSR and the bus byte say.
 use mathlib.Core.Path.{_≡_, refl}
+use mathlib.Core.Bool.{Bool, true, false}
 use mathlib.Core.List.{List}
-use Prim.Native.Nat.{ℕ, zero, suc, _/_, _%_}
+use Prim.Native.Nat.{ℕ, zero, suc, _-_, _*_, _/_, _%_, _<_, _≤_}
 use native.Mathlib.Omega.{arith}
-use borrow.Author.Tests.{le-ltb}
-use lib.Dec.{ltb}
+use borrow.Author.Tests.{le-leb, lt-leb, le-ltb, leb-true, leb-false}
+use lib.Dec.{leb, ltb}
 use lib.IntN.{ℤ, pos, negsuc}
 use lib.ListN.{getD}
-use Rattle.words.specs.Choice.{if}
+use Rattle.common.specs.Choice.{if}
 use Rattle.picture.specs.declared.sprite.Sprite.{Sprite}
-use Rattle.picture.specs.Sprites.{offSprite, rawOf, highShown, shown, spriteContents}
+use Rattle.picture.specs.Sprites.{offSprite, rawOf, coordinate, highShown, shown, spriteContents, SpriteWidths}
 use Rattle.chip.specs.declared.Chip.{Chip}
 use Rattle.registers.specs.declared.address.Register.{Register}
 use Rattle.registers.specs.declared.address.Register.the-variants.{Pixel, Sprite as SpriteAt, Palette, Video as VideoAt, Ivr, Converter, Channel as ChannelAt, Dcsr, Status, Empty}
 use Rattle.registers.specs.Registers.{dcsr, registerRead}
 use Rattle.contents.specs.Contents.{contents}
+use Rattle.contents.specs.Shown.{highBy, spriteBy, shownBy, showsDcsr}
+use Rattle.contents.specs.Widths.{Widths}
 
--- the high byte of a coordinate: its contents, or FFh if it is negative
-abbrev pub signed : ℤ → ℕ → ℕ
-signed (pos n) b = b
-signed (negsuc n) b = 255
+-- the upper bits of a coordinate within its width tell its sign
+high-read :
+    (m limit : ℕ) (z : ℤ) → coordinate m (256 * limit) (rawOf m z) ≡ z → highShown m z ≡ highBy limit (rawOf m z / 256)
+unfolding coordinate
+high-read m limit (pos n) e = go (leb (256 * limit) (n % m)) refl
+  where
+    go : (t : Bool) → leb (256 * limit) (n % m) ≡ t → n % m / 256 ≡ highBy limit (n % m / 256)
+    go true h =
+        let k : negsuc (m - 1 - n % m) ≡ pos n = rw h at e in
+        absurd (let z : _≡_ {A = ℕ} 0 1 = cc in omega arith)
+    go false h =
+        let l : n % m < 256 * limit = leb-false _ _ h in
+        rw (lt-leb limit (n % m / 256) (omega arith))
+high-read m limit (negsuc n) e = go (leb (256 * limit) (m - 1 - n % m)) refl
+  where
+    go : (t : Bool) → leb (256 * limit) (m - 1 - n % m) ≡ t → 255 ≡ highBy limit ((m - 1 - n % m) / 256)
+    go true h =
+        let l : 256 * limit ≤ m - 1 - n % m = leb-true _ _ h in
+        rw (le-leb limit ((m - 1 - n % m) / 256) (omega arith))
+    go false h =
+        let k : pos (m - 1 - n % m) ≡ negsuc n = rw h at e in
+        absurd (let z : _≡_ {A = ℕ} 0 1 = cc in omega arith)
 
--- of a sprite's registers, at +1 and +3
-abbrev pub spriteSigned : Sprite → ℕ → ℕ → ℕ
-spriteSigned s zero b = b
-spriteSigned s (suc zero) b = signed (s .x) b
-spriteSigned s (suc (suc zero)) b = b
-spriteSigned s (suc (suc (suc p))) b = signed (s .y) b
-
--- what a register with these contents reads as
-abbrev pub shownBy : Chip → Register → ℕ → ℕ → ℕ
-shownBy c (Pixel i) v bus = v % 16
-shownBy c (SpriteAt n p) v bus = if (ltb p 4) (spriteSigned (getD (c .sprites) n offSprite) p v) bus
-shownBy c (Palette i) v bus = v
-shownBy c (VideoAt r) v bus = bus
-shownBy c Ivr v bus = bus
-shownBy c Converter v bus = 0
-shownBy c (ChannelAt n r) v bus = dcsr c
-shownBy c Dcsr v bus = dcsr c
-shownBy c Status v bus = dcsr c
-shownBy c Empty v bus = bus
-
-high-read : (m : ℕ) (z : ℤ) → highShown m z ≡ signed z (rawOf m z / 256)
-high-read m (pos n) = refl
-high-read m (negsuc n) = refl
-
-sprite-shows : (s : Sprite) (p bus : ℕ) → if (ltb p 4) (shown s p) bus ≡ if (ltb p 4) (spriteSigned s p (spriteContents s p)) bus
+sprite-shows :
+    (s : Sprite) (p bus : ℕ) → SpriteWidths s → if (ltb p 4) (shown s p) bus ≡ if (ltb p 4) (spriteBy p (spriteContents s p)) bus
 unfolding shown spriteContents
-sprite-shows s zero bus = refl
-sprite-shows s (suc zero) bus = high-read 1024 (s .x)
-sprite-shows s (suc (suc zero)) bus = refl
-sprite-shows s (suc (suc (suc zero))) bus = high-read 512 (s .y)
-sprite-shows s (suc (suc (suc (suc p)))) bus = simp (le-ltb (suc (suc (suc (suc p)))) 4 (omega arith))
+sprite-shows s zero bus w = refl
+sprite-shows s (suc zero) bus w = high-read 1024 3 (s .x) (w .x-width)
+sprite-shows s (suc (suc zero)) bus w = refl
+sprite-shows s (suc (suc (suc zero))) bus w = high-read 512 1 (s .y) (w .y-width)
+sprite-shows s (suc (suc (suc (suc p)))) bus w = simp (le-ltb (suc (suc (suc (suc p)))) 4 (omega arith))
 
 pub read-shows :
-    (c : Chip) (store : List ℕ) (x : Register) (bus : ℕ) → registerRead c store x bus ≡ shownBy c x (contents c store x) bus
-read-shows c store (Pixel i) bus = refl
-read-shows c store (SpriteAt n p) bus = sprite-shows (getD (c .sprites) n offSprite) p bus
-read-shows c store (Palette i) bus = refl
-read-shows c store (VideoAt r) bus = refl
-read-shows c store Ivr bus = refl
-read-shows c store Converter bus = refl
-read-shows c store (ChannelAt n r) bus = refl
-read-shows c store Dcsr bus = refl
-read-shows c store Status bus = refl
-read-shows c store Empty bus = refl
+    (c : Chip) (store : List ℕ) (x : Register) (bus : ℕ) → Widths c →
+    registerRead c store x bus ≡ shownBy x (contents c store x) (dcsr c) bus
+read-shows c store (Pixel i) bus w = refl
+read-shows c store (SpriteAt n p) bus w = sprite-shows (getD (c .sprites) n offSprite) p bus (w .sprite n)
+read-shows c store (Palette i) bus w = refl
+read-shows c store (VideoAt r) bus w = refl
+read-shows c store Ivr bus w = refl
+read-shows c store Converter bus w = refl
+read-shows c store (ChannelAt n r) bus w = refl
+read-shows c store Dcsr bus w = refl
+read-shows c store Status bus w = refl
+read-shows c store Empty bus w = refl
+
+-- what shows DCSR doesn't show its contents, and the rest not DCSR
+dcsr-shown : (x : Register) (u v d bus : ℕ) → showsDcsr x ≡ true → shownBy x u d bus ≡ shownBy x v d bus
+dcsr-shown (Pixel i) u v d bus h = absurd (let z : _≡_ {A = ℕ} 0 1 = cc in omega arith)
+dcsr-shown (SpriteAt n p) u v d bus h = absurd (let z : _≡_ {A = ℕ} 0 1 = cc in omega arith)
+dcsr-shown (Palette i) u v d bus h = absurd (let z : _≡_ {A = ℕ} 0 1 = cc in omega arith)
+dcsr-shown (VideoAt r) u v d bus h = refl
+dcsr-shown Ivr u v d bus h = refl
+dcsr-shown Converter u v d bus h = refl
+dcsr-shown (ChannelAt n r) u v d bus h = refl
+dcsr-shown Dcsr u v d bus h = refl
+dcsr-shown Status u v d bus h = refl
+dcsr-shown Empty u v d bus h = refl
+
+own-shown : (x : Register) (v d e bus : ℕ) → showsDcsr x ≡ false → shownBy x v d bus ≡ shownBy x v e bus
+own-shown (Pixel i) v d e bus h = refl
+own-shown (SpriteAt n p) v d e bus h = refl
+own-shown (Palette i) v d e bus h = refl
+own-shown (VideoAt r) v d e bus h = refl
+own-shown Ivr v d e bus h = refl
+own-shown Converter v d e bus h = refl
+own-shown (ChannelAt n r) v d e bus h = absurd (let z : _≡_ {A = ℕ} 0 1 = cc in omega arith)
+own-shown Dcsr v d e bus h = absurd (let z : _≡_ {A = ℕ} 0 1 = cc in omega arith)
+own-shown Status v d e bus h = absurd (let z : _≡_ {A = ℕ} 0 1 = cc in omega arith)
+own-shown Empty v d e bus h = refl
+
+-- chips within the widths: a register that shows its contents reads the same where these are the same, and one that shows DCSR where
+-- that is
+module _ (c d : Chip) (s t : List ℕ) (wc : Widths c) (wd : Widths d) (x : Register) (bus : ℕ) where
+  pub same-own : showsDcsr x ≡ false → contents c s x ≡ contents d t x → registerRead c s x bus ≡ registerRead d t x bus
+  same-own h same =
+      rw (read-shows c s x bus wc, read-shows d t x bus wd, same) (own-shown x (contents d t x) (dcsr c) (dcsr d) bus h)
+
+  pub same-dcsr : dcsr c ≡ dcsr d → showsDcsr x ≡ true → registerRead c s x bus ≡ registerRead d t x bus
+  same-dcsr e h =
+      rw (read-shows c s x bus wc, read-shows d t x bus wd, e) (dcsr-shown x (contents c s x) (contents d t x) (dcsr d) bus h)

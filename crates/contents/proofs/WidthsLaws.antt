@@ -2,13 +2,13 @@
 use mathlib.Core.Path.{_≡_, refl}
 use mathlib.Core.Bool.{Bool, true, false}
 use mathlib.Core.List.{List}
-use Prim.Native.Nat.{ℕ, zero, suc, _*_, _/_, _%_, _<_}
+use Prim.Native.Nat.{ℕ, zero, suc, _%_, _<_}
 use native.Mathlib.Nat.{mod-lt}
 use native.Mathlib.Omega.{arith}
 use lib.Dec.{eqb}
-use lib.ListN.{length, getD, set, replicate, length-set}
-use Rattle.words.specs.Choice.{if}
-use Rattle.words.proofs.Lists.{after-set}
+use lib.ListN.{length, getD, replicate, length-set}
+use Rattle.common.specs.Choice.{if}
+use Rattle.common.proofs.Lists.{after-set}
 use Rattle.sound.specs.declared.Channel.{Channel}
 use Rattle.sound.specs.declared.Sound.{Sound}
 use Rattle.sound.specs.Channels.{withFlags}

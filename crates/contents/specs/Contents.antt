@@ -2,6 +2,7 @@
 use mathlib.Core.List.{List}
 use Prim.Native.Nat.{ℕ, _*_, _/_, _%_, _<_}
 use lib.ListN.{getD}
+use Rattle.common.specs.Sizes.{storeBytes}
 use Rattle.sound.specs.declared.Channel.{Channel}
 use Rattle.sound.specs.Line.{channelOf}
 use Rattle.crtc.specs.declared.Video.{Video}
@@ -44,7 +45,7 @@ contents c store Empty = 0
 
 -- a register of the chip or the store that has contents
 abbrev pub Holds : Register → Type 0
-Holds (Pixel i) = i < 4096
+Holds (Pixel i) = i < storeBytes
 Holds (SpriteAt n p) = (n < 16) × (p < 5)
 Holds (Palette i) = i < 64
 Holds (VideoAt v) = Unit {0}

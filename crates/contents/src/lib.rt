@@ -63,7 +63,7 @@ pub fn contents_of(chip: Chip, store: &[u8], register: Register) -> u8
     ensures { λ r. ⌜ r ≡ contents chip (now (store .entry)) register ⌝ }
 {
     match register {
-        Register::Pixel(i) => words::byte_at(store, i),
+        Register::Pixel(i) => common::byte_at(store, i),
         Register::Sprite(n, place) => {
             let sprites = chip.sprites;
             sprite_contents(sprites, n, place)

@@ -1,8 +1,8 @@
 -- 01, "One line": raster compare, split compare, counters, in this order.
 use mathlib.Core.Bool.{Bool, true, false, not}
 use Prim.Native.Nat.{ℕ, _+_, _*_, _/_, _%_}
-use lib.Dec.{eqb, leb, ltb}
-use Rattle.words.specs.Choice.{if, both}
+use lib.Dec.{eqb, leb}
+use Rattle.common.specs.Choice.{if, both}
 use Rattle.crtc.specs.declared.Registers.{Registers}
 use Rattle.crtc.specs.declared.Counters.{Counters}
 use Rattle.crtc.specs.declared.Video.{Video}
@@ -79,8 +79,8 @@ addressAfter r sscr c =
     (if (eqb ((c .rc + scrollLines sscr) % 32) (r .r9)) ((c .address + r .r1) % 16384) (c .address))
 
 -- the counters of the next line; entering a line within the frame spends what is held
-unfoldable pub counted : Registers → ℕ → Counters → Counters
-counted r sscr c =
+unfoldable pub nextLine : Registers → ℕ → Counters → Counters
+nextLine r sscr c =
     if (frameEnds r c) (frameStart r c)
     (record {
       vc = positionAfter r c .vc;
@@ -93,4 +93,4 @@ counted r sscr c =
 
 -- one line's counting
 unfoldable pub lineOf : Registers → Video → Counters → Counted
-lineOf r v c = record { counters = counted r (v .sscr) (captured v c); raster = rasterDue v c }
+lineOf r v c = record { counters = nextLine r (v .sscr) (captured v c); raster = rasterDue v c }

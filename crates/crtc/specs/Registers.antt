@@ -2,7 +2,7 @@
 use mathlib.Core.Bool.{Bool}
 use Prim.Native.Nat.{ℕ, _%_}
 use lib.Dec.{eqb}
-use Rattle.words.specs.Choice.{if, either}
+use Rattle.common.specs.Choice.{if, either}
 use Rattle.crtc.specs.declared.Registers.{Registers}
 
 -- R1, R4, R5, R6, R9, R12 and R13 are kept, and no other

@@ -2,7 +2,7 @@
 ghost use mathlib.Core.Path.{_≡_};
 ghost use mathlib.Core.Bool.{false};
 ghost use Rattle.crtc.specs.Registers.{hasRegister, written};
-ghost use Rattle.crtc.specs.Line.{rasterDue, splitDue, captured, frameEnds, positionAfter, addressAfter, frameStart, counted, lineOf};
+ghost use Rattle.crtc.specs.Line.{rasterDue, splitDue, captured, frameEnds, positionAfter, addressAfter, frameStart, nextLine, lineOf};
 
 // The registers that are kept. A data write stores no more bits than document 01 gives a register; the fields themselves hold any byte.
 #[repr(C)]
@@ -222,8 +222,8 @@ impl Counters {
     }
 
     // The counters of the next line.
-    fn counted(self, r: Registers, sscr: u8) -> Counters
-        ensures { λ c. ⌜ c ≡ counted r sscr self ⌝ }
+    fn next_line(self, r: Registers, sscr: u8) -> Counters
+        ensures { λ c. ⌜ c ≡ nextLine r sscr self ⌝ }
     {
         if self.frame_ends(r) {
             return self.frame_start(r);
@@ -244,7 +244,7 @@ impl Counters {
         ensures { λ l. ⌜ l ≡ lineOf r v self ⌝ }
     {
         let raster = self.raster_due(v);
-        let counters = self.captured(v).counted(r, v.sscr);
+        let counters = self.captured(v).next_line(r, v.sscr);
         Counted { counters, raster }
     }
 }

@@ -7,7 +7,7 @@ use borrow.Author.Tests.{ne-eqb, lt-ltb, le-ltb, le-leb, lt-leb}
 use native.Mathlib.Omega.{arith}
 use lib.ListN.{length, getD, set}
 use lib.Seq.{getD-set-same, getD-set-other}
-use Rattle.words.proofs.Order.{either-side}
+use Rattle.common.proofs.Order.{either-side}
 use Rattle.overlay.specs.Overlay.{divided, firstOn, Kept}
 use Rattle.overlay.specs.Stretches.{coverPixel, firstCover, Ready, Stretched}
 use Rattle.overlay.specs.declared.LineSprite.{LineSprite}

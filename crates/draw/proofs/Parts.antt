@@ -8,13 +8,13 @@ use native.Mathlib.Nat.{mul-le-mul}
 use borrow.Author.Tests.{lt-ltb, le-ltb, le-leb, lt-leb}
 use lib.Dec.{leb, ltb}
 use lib.ListN.{length}
-use Rattle.words.specs.Choice.{if, both, either, bit}
+use Rattle.common.specs.Choice.{if, both, either, bit}
 use Rattle.crtc.specs.Line.{scrollLines}
 use Rattle.picture.specs.Screen.{rowLine}
 use Rattle.screen.specs.MainLine.{LinePens}
 use Rattle.overlay.specs.Overlay.{Overlay}
 use Rattle.overlay.specs.declared.LineSprites.{LineSprites}
-use Rattle.words.proofs.Order.{either-side}
+use Rattle.common.proofs.Order.{either-side}
 use Rattle.chip.specs.declared.Chip.{Chip}
 use Rattle.draw.specs.declared.Edges.{Edges}
 use Rattle.draw.specs.Drawing.{drawAnswer, allBorder, isBorder, frameLine, mainPen, screenPen, entryAt, Draws}

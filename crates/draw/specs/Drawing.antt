@@ -5,18 +5,19 @@ use mathlib.Core.List.{List}
 use Prim.Native.Nat.{ℕ, _+_, _-_, _*_, _/_, _%_, _<_}
 use lib.Dec.{eqb, leb, ltb}
 use lib.ListN.{length, getD}
-use Rattle.words.specs.Choice.{if, both, either, bit}
+use Rattle.common.specs.Choice.{if, both, either, bit}
 use Rattle.crtc.specs.Line.{scrollLines}
 use Rattle.picture.specs.Screen.{rowLine}
 use Rattle.screen.specs.MainLine.{linePen}
 use Rattle.overlay.specs.Overlay.{firstPixel}
 use Rattle.chip.specs.declared.Chip.{Chip}
-use Rattle.words.specs.Answers.{done, wrongLength, modeThree}
+use Rattle.common.specs.Answers.{done, wrongLength, modeThree}
+use Rattle.common.specs.Sizes.{ramBytes, storeBytes, lineBytes}
 
 -- 1 for a buffer of another length, then 4 for mode 3
 unfoldable pub drawAnswer : Chip → ℕ → ℕ → ℕ → ℕ
 drawAnswer c ram store line =
-    if (both (eqb ram 65536) (both (eqb store 4096) (eqb line 640))) (if (eqb (c .gate .mode) 3) modeThree done) wrongLength
+    if (both (eqb ram ramBytes) (both (eqb store storeBytes) (eqb line lineBytes))) (if (eqb (c .gate .mode) 3) modeThree done) wrongLength
 
 -- in adjust, or with VC at R6 or more, the whole line is border
 unfoldable pub allBorder : Chip → Bool
@@ -58,6 +59,6 @@ entryAt c ram store x =
 -- what drawing promises: the answer; served, every one of the 640 bytes; refused, the line as it was
 pub record Draws (c : Chip) (ram store before after : List ℕ) (r : ℕ) : Type 0 where
   pub answer : r ≡ drawAnswer c (length ram) (length store) (length before)
-  pub drawn : r ≡ done → (x : ℕ) → x < 640 → getD after x 0 ≡ entryAt c ram store x
+  pub drawn : r ≡ done → (x : ℕ) → x < lineBytes → getD after x 0 ≡ entryAt c ram store x
   pub size : length after ≡ length before
   pub refused : (r ≡ done → ⊥) → after ≡ before

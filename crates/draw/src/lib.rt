@@ -1,12 +1,15 @@
 // Drawing the current line.
 use chip::Chip;
+use common::answer::DONE;
+use common::answer::MODE_THREE;
+use common::answer::WRONG_LENGTH;
+use common::size::LINE;
+use common::size::RAM;
+use common::size::STORE;
 use crtc::Counters;
 use crtc::Registers;
 use overlay::LineSprites;
 use overlay::Stretch;
-use words::answer::DONE;
-use words::answer::MODE_THREE;
-use words::answer::WRONG_LENGTH;
 ghost use mathlib.Core.Path.{_≡_};
 ghost use Prim.Native.Nat.{_+_, _*_, _%_, _≤_};
 ghost use lib.ListN.{length};
@@ -162,13 +165,13 @@ fn frame_line(r: Registers, c: Counters) -> u16
 pub fn draw(chip: Chip, ram: &[u8], store: &[u8], line: &mut [u8]) -> u8
     ensures { λ r. ⌜ Draws chip (now (ram .entry)) (now (store .entry)) (now (line .entry)) (now (line .exit)) r ⌝ }
 {
-    if ram.len() != 65536 {
+    if ram.len() != RAM {
         return WRONG_LENGTH;
     }
-    if store.len() != 4096 {
+    if store.len() != STORE {
         return WRONG_LENGTH;
     }
-    if line.len() != 640 {
+    if line.len() != LINE {
         return WRONG_LENGTH;
     }
     let gate = chip.gate;

@@ -1,13 +1,13 @@
 -- Three bytes put at a place, and the export with one register more.
 use mathlib.Core.Path.{_≡_, refl, ap, sym, _∙_}
 use mathlib.Core.List.{List, [], _∷_, _++_, append-assoc}
-use Prim.Native.Nat.{ℕ, zero, suc, _+_, _*_, _/_, _%_, _<_, _≤_}
+use Prim.Native.Nat.{ℕ, _+_, _*_, _/_, _%_, _<_, _≤_}
 use native.Mathlib.Numerals.{add-one}
 use native.Mathlib.Omega.{arith}
 use lib.ListN.{length, take, getD, set, length-set}
 use lib.Seq.{take-suc, take-suc-set}
-use Rattle.words.specs.Lists.{listed}
-use Rattle.words.proofs.Lists.{getD-listed}
+use Rattle.common.specs.Lists.{listed}
+use Rattle.common.proofs.Lists.{getD-listed}
 use Rattle.chip.specs.declared.Chip.{Chip}
 use Rattle.registers.specs.Address.{registerAt}
 use Rattle.contents.specs.Contents.{contents}

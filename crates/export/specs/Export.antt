@@ -4,8 +4,9 @@ use mathlib.Core.List.{List, [], _∷_, _++_}
 use Prim.Native.Nat.{ℕ, zero, suc, _+_, _/_, _%_}
 use lib.Dec.{eqb}
 use lib.ListN.{length}
-use Rattle.words.specs.Answers.{done, wrongLength, served}
-use Rattle.words.specs.Choice.{if}
+use Rattle.common.specs.Answers.{done, wrongLength, served}
+use Rattle.common.specs.Choice.{if}
+use Rattle.common.specs.Sizes.{exportBytes}
 use Rattle.chip.specs.declared.Chip.{Chip}
 use Rattle.registers.specs.Address.{registerAt}
 use Rattle.contents.specs.Contents.{contents}
@@ -31,7 +32,7 @@ bytesOf c (a ∷ rest) = a % 256 ∷ a / 256 ∷ contents c [] (registerAt a) �
 
 -- a buffer of 477 bytes, 3 for each of 159 registers
 unfoldable pub exportAnswer : ℕ → ℕ
-exportAnswer size = if (eqb size 477) done wrongLength
+exportAnswer size = if (eqb size exportBytes) done wrongLength
 
 -- what the export promises
 pub record Exports (c : Chip) (before after : List ℕ) (r : ℕ) : Type 0 where

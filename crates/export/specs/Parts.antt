@@ -4,7 +4,7 @@ use mathlib.Core.List.{List, [], _∷_, _++_}
 use Prim.Native.Nat.{ℕ, _+_, _-_, _*_, _/_, _%_}
 use lib.Dec.{ltb}
 use lib.ListN.{take}
-use Rattle.words.specs.Choice.{if}
+use Rattle.common.specs.Choice.{if}
 
 -- address number k, without the list
 unfoldable pub addressOf : ℕ → ℕ

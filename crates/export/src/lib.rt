@@ -1,17 +1,16 @@
 // The export: every register's address and contents, three bytes each.
 use chip::Chip;
-use words::answer::DONE;
-use words::answer::WRONG_LENGTH;
+use common::answer::DONE;
+use common::answer::WRONG_LENGTH;
+use common::size::EXPORT;
 ghost use mathlib.Core.Path.{_≡_};
 ghost use Prim.Native.Nat.{_+_, _≤_, _<_};
 ghost use lib.ListN.{length};
 ghost use Rattle.export.specs.Export.{Exports};
 ghost use Rattle.export.specs.Parts.{addressOf, PutsThree};
 
-// How many registers are exported, and how many bytes that makes.
+// How many registers are exported.
 const REGISTERS: usize = 159;
-
-pub const EXPORT_BYTES: usize = 477;
 
 // The address of register number k, in rising order: sprites, palette, 6800h to 6805h, channels.
 fn address_of(k: usize) -> u16
@@ -44,7 +43,7 @@ fn put_three(out: &mut [u8], at: usize, address: u16, byte: u8)
 pub fn export(chip: Chip, out: &mut [u8]) -> u8
     ensures { λ r. ⌜ Exports chip (now (out .entry)) (now (out .exit)) r ⌝ }
 {
-    if out.len() != EXPORT_BYTES {
+    if out.len() != EXPORT {
         return WRONG_LENGTH;
     }
     let no_pixels = [0u8; 0];

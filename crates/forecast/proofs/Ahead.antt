@@ -4,9 +4,10 @@ use mathlib.Core.Bool.{Bool, true, false}
 use mathlib.Core.List.{List, [], _∷_}
 use Prim.Native.Nat.{ℕ, _+_, _*_}
 use native.Mathlib.Omega.{arith}
-use Rattle.words.specs.Choice.{if}
+use Rattle.common.specs.Choice.{if}
 use Rattle.words.specs.Words.{low12}
-use Rattle.forecast.specs.Rule.{repeats, loops, stops, closes, openCount, passes, total}
+use Rattle.words.specs.Words.{repeats, loops, stops}
+use Rattle.forecast.specs.Rule.{closes, openCount, passes, total}
 use Rattle.forecast.specs.Left.{ahead}
 
 module _ (cost : ℕ → ℕ) (k since w : ℕ) (ws : List ℕ) where

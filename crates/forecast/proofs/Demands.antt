@@ -4,7 +4,7 @@ use mathlib.Core.Bool.{true}
 use mathlib.Core.List.{List}
 use Prim.Native.Nat.{ℕ}
 use Rattle.forecast.specs.Rule.{even, wordsOf, hasStop, linesForecast, cyclesMeeting, cyclesForecast, mostForecast}
-use Rattle.forecast.specs.Demand.{channel, didOver, Demand}
+use Rattle.forecast.specs.Demand.{channel, stepsOf, didOver, Demand}
 use Rattle.forecast.proofs.Runs.{seen, bounded}
 use Rattle.forecast.proofs.Plays.{plays}
 use Rattle.forecast.proofs.Disturbed.{foretold}
@@ -16,8 +16,8 @@ pub demanded :
 demanded ram start n listed =
     record {
       foretold =
-          λ m h c d steps ready run.
-          foretold m (linesForecast ram start n) (λ a. cyclesMeeting a ram start) steps
-          (plays ram start n (channel c m) (didOver m steps) listed ready (seen h run));
-      bounded = λ m c d steps run. bounded run;
+          λ m h w v log ready run ok.
+          foretold m (linesForecast ram start n) (λ a. cyclesMeeting a ram start) (stepsOf log)
+          (plays ram start n (channel (w .chip) m) (didOver m (stepsOf log)) listed ready (seen m h run ok));
+      bounded = λ w v log run. bounded run;
     }

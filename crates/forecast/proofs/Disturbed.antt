@@ -1,11 +1,11 @@
 -- Cycles over line steps that meet different accesses, from those of the same reports with one access throughout.
-use mathlib.Core.Path.{_≡_, refl, sym, _∙_, ap}
-use mathlib.Core.Bool.{Bool, true, false}
-use mathlib.Core.List.{List, [], _∷_, map}
-use Prim.Native.Nat.{ℕ, zero, suc, _+_, _≤_, _<_}
+use mathlib.Core.Path.{_≡_, refl, _∙_}
+use mathlib.Core.Bool.{true}
+use mathlib.Core.List.{List, [], _∷_}
+use Prim.Native.Nat.{ℕ, _+_, _≤_}
 use native.Mathlib.Omega.{arith}
 use lib.ListN.{length, length-map, take}
-use Rattle.words.proofs.Lists.{map-take}
+use Rattle.common.proofs.Lists.{map-take}
 use Rattle.words.specs.declared.WordKind.the-variants.{Load, Pause, Repeat, Control, Nothing}
 use Rattle.sound.specs.declared.Access.{Access}
 use Rattle.sound.specs.declared.Access.the-variants.{Off, On, PsgWrite}
@@ -14,7 +14,7 @@ use Rattle.sound.specs.declared.Did.the-variants.{SatOut, Executed}
 use Rattle.sound.specs.Line.{disturbance, ownCycles, taken}
 use Rattle.sound.proofs.Laws.{two-at-most}
 use Rattle.forecast.specs.Demand.{LineStep, didIn, accessIn, didOver, didLoad, ownOver, takenOver, LoadsMeet, Foretold}
-use Rattle.forecast.proofs.Told.{Told, ownMeeting}
+use Rattle.forecast.proofs.Told.{ownMeeting}
 use Rattle.forecast.proofs.Plays.{Plain}
 
 -- one line: its least cycles and what is taken; at most what a PSG register write makes of it

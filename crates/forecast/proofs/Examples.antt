@@ -1,5 +1,5 @@
 -- The starred numbers, by one computed test over the list of them and a law that turns the test into the claim.
-use mathlib.Core.Path.{_≡_, refl, sym, _∙_, ap}
+use mathlib.Core.Path.{_≡_, refl, _∙_, ap}
 use mathlib.Core.Bool.{Bool, true, false, not}
 use mathlib.Core.List.{List, [], _∷_}
 use Prim.Native.Nat.{ℕ, zero, suc, _+_, _*_, _/_, _%_, _<_, _≤_}
@@ -7,18 +7,18 @@ use native.Mathlib.Nat.{add-zero, zero-add}
 use native.Mathlib.Omega.{arith}
 use lib.Dec.{T, eqb, ltb, eqb→eq, ltb→lt}
 use lib.ListN.{length, getD}
-use borrow.Author.Tests.{eq-eqb}
-use Rattle.words.specs.Choice.{if, both}
+use Rattle.common.specs.Choice.{both}
 use Rattle.sound.specs.declared.Access.the-variants.{Off}
 use Rattle.sound.specs.declared.Channel.{Channel}
 use Rattle.sound.specs.declared.Turn.{Turn}
-use Rattle.sound.specs.Channels.{wordAt, counted, active, fetched, turnOf, withPause}
+use Rattle.sound.specs.Channels.{wordAt, pauseCounted, fetched, withPause}
 use Rattle.sound.specs.Line.{channelAfter}
 use Rattle.picture.specs.Pens.{widthOf, pen}
 use Rattle.picture.specs.Screen.{characterAt, byteAddress, rowLine}
-use Rattle.forecast.specs.Rule.{repeats, loops, stops, closes, openCount, passes, linesOf, cyclesOf, wordsOf, hasStop, total, even, answerOf, linesForecast, cyclesMeeting}
+use Rattle.words.specs.Words.{repeats, loops, stops}
+use Rattle.forecast.specs.Rule.{closes, openCount, passes, linesOf, cyclesOf, wordsOf, hasStop, total, even, linesForecast, cyclesMeeting}
 use Rattle.forecast.specs.Demand.{Ready}
-use Rattle.forecast.specs.Examples.{Case, forecasts, ends, shows, pens, cases, Has, Forecast, End, Pens, Claim, All}
+use Rattle.forecast.specs.Examples.{Case, forecasts, ends, shows, pens, cases, Has, Claim, All}
 use Rattle.forecast.proofs.Words.{words-stop, words-more}
 use Rattle.forecast.proofs.Waits.{turn-acts}
 use Rattle.forecast.proofs.Moves.{moves}
@@ -114,10 +114,10 @@ both-false true = refl
 both-false false = refl
 
 goes-on : (ram : List ℕ) (a n : ℕ) (c : Channel) → Ready a n c → channelAfter ram c .address ≡ (even a + 2) % 65536
-unfolding counted fetched
+unfolding pauseCounted fetched
 goes-on ram a n c r =
-    let stays : counted c ≡ c = simp (r .enabled, r .pause) in
-    let acts : counted c ≡ withPause c 0 (c .count) = stays ∙ ap (λ p. withPause c p (c .count)) (r .pause) in
+    let stays : pauseCounted c ≡ c = simp (r .enabled, r .pause) in
+    let acts : pauseCounted c ≡ withPause c 0 (c .count) = stays ∙ ap (λ p. withPause c p (c .count)) (r .pause) in
     ap (λ (t : Turn). t .channel .address) (turn-acts c (r .enabled) ram (c .count) acts)
     ∙ ap (λ (d : Channel). d .address) (moves (wordAt ram (c .address)) (fetched (withPause c 0 (c .count))))
     ∙ simp (r .counter, both-false, r .address)

@@ -10,14 +10,14 @@ pub mod Waits
 pub mod WordPlays
 pub mod LinePlays
 pub mod Told
-pub mod Trace
+pub mod ChannelRun
 pub mod Plays
 pub mod Disturbed
 pub mod Spares
 pub mod Runs
 pub mod Demands
 pub mod Exist
-pub mod Asked
 pub mod AnyList
+pub mod AnyBuffers
 pub mod Answer
 pub mod Examples

@@ -5,7 +5,7 @@ use mathlib.Core.List.{List}
 use Prim.Native.Nat.{ℕ, suc, _+_, _*_}
 use native.Mathlib.Omega.{arith}
 use lib.Dec.{ltb}
-use Rattle.words.specs.Choice.{if, both}
+use Rattle.common.specs.Choice.{if, both}
 use Rattle.words.specs.Words.{kindOf, isLoad, low12, stopBit}
 use Rattle.words.specs.declared.WordKind.{WordKind}
 use Rattle.words.specs.declared.WordKind.the-variants.{Load, Pause, Repeat, Control, Nothing}
@@ -14,9 +14,10 @@ use Rattle.sound.specs.declared.Channel.{Channel}
 use Rattle.sound.specs.declared.Did.{Did}
 use Rattle.sound.specs.declared.Did.the-variants.{SatOut, Executed}
 use Rattle.sound.specs.declared.Turn.{Turn}
-use Rattle.sound.specs.Channels.{wordAt, withPause, fetched, played, turnOf}
+use Rattle.sound.specs.Channels.{wordAt, withPause, fetched, wordPlayed, turnOf}
 use Rattle.sound.specs.Line.{disturbance, ownCycles, channelAfter, didOn}
-use Rattle.forecast.specs.Rule.{isPause, isControl, stops, linesOf, cyclesOf, wordsOf, hasStop}
+use Rattle.words.specs.Words.{isPause, isControl, stops}
+use Rattle.forecast.specs.Rule.{linesOf, cyclesOf, wordsOf, hasStop}
 use Rattle.forecast.specs.Left.{waits, left, linesLeft, cyclesLeft}
 use Rattle.forecast.proofs.Playing.{Playing}
 use Rattle.forecast.specs.Demand.{didStop, Lent}
@@ -79,11 +80,11 @@ pub data Line (ram : List ℕ) (start : ℕ) (c d : Channel) (r : Did) : Type 0 
   plays-on : Plays ram start c d r → Line ram start c d r
 
 -- a word leaves the prescale, and a STOP clears the enable
-same-prescale : (c : Channel) (w : ℕ) → played c w .channel .prescale ≡ c .prescale
+same-prescale : (c : Channel) (w : ℕ) → wordPlayed c w .channel .prescale ≡ c .prescale
 unfolding fetched
 same-prescale c w = rw moves
 
-stop-clears : (c : Channel) (w : ℕ) → stops w ≡ true → played c w .channel .enabled ≡ false
+stop-clears : (c : Channel) (w : ℕ) → stops w ≡ true → wordPlayed c w .channel .enabled ≡ false
 unfolding fetched
 stop-clears c w s = rw (moves, s)
 
@@ -96,7 +97,7 @@ module _ (ram : List ℕ) (start : ℕ) (listed : hasStop (wordsOf ram start) �
   module _ (q : ℕ) (none : waits (c .prescale) (c .pause) (c .count) ≡ 0) where
     -- the pause is over: a word is executed
     turn : Turn
-    turn = played (withPause c 0 q) (wordAt ram (c .address))
+    turn = wordPlayed (withPause c 0 q) (wordAt ram (c .address))
 
     act-stops : stops (wordAt ram (c .address)) ≡ true → Stops ram c (turn .channel) (turn .did)
     unfolding turn left linesLeft cyclesLeft

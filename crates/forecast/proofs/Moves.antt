@@ -5,13 +5,13 @@ use Prim.Native.Nat.{ℕ, zero, suc, _-_}
 use native.Mathlib.Omega.{arith}
 use lib.Dec.{ltb, eqb·suc-zero}
 use borrow.Author.Tests.{lt-ltb}
-use Rattle.words.specs.Choice.{if, both}
+use Rattle.common.specs.Choice.{if, both}
 use Rattle.words.specs.Words.{kindOf, low12, loopBit, intBit, stopBit}
 use Rattle.words.specs.declared.WordKind.{WordKind}
 use Rattle.words.specs.declared.WordKind.the-variants.{Load, Pause, Repeat, Control, Nothing}
 use Rattle.sound.specs.declared.Channel.{Channel}
 use Rattle.sound.specs.Channels.{withAddress, withLoop, executed, paused, controlled, interrupted, stopped}
-use Rattle.forecast.specs.Rule.{isPause, isRepeat, isControl, repeats, loops, stops}
+use Rattle.words.specs.Words.{isPause, isRepeat, isControl, repeats, loops, stops}
 
 -- the channel after a word that pauses, repeats, loops back, interrupts or stops, with these low 12 bits
 abbrev pub moved : Bool → Bool → Bool → Bool → Bool → ℕ → Channel → Channel

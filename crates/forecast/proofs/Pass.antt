@@ -6,7 +6,7 @@ use Prim.Native.Nat.{ℕ, _+_, _*_, _^_, _≤_, _<_}
 use native.Mathlib.Nat.{mul-le-mul}
 use native.Mathlib.Omega.{arith}
 use lib.Dec.{ltb}
-use Rattle.words.specs.Choice.{if, both}
+use Rattle.common.specs.Choice.{if, both}
 use Rattle.words.specs.Words.{kindOf, isLoad, low12, loopBit}
 use Rattle.words.specs.declared.WordKind.{WordKind}
 use Rattle.words.specs.declared.WordKind.the-variants.{Load, Pause, Repeat, Control, Nothing}
@@ -17,7 +17,8 @@ use Rattle.sound.proofs.Laws.{two-at-most}
 use Rattle.sound.specs.Channels.{wordAt}
 use Rattle.forecast.specs.declared.Scan.{Scan}
 use Rattle.forecast.specs.declared.Sums.{Sums}
-use Rattle.forecast.specs.Rule.{isPause, isRepeat, isControl, repeats, loops, stops, linesOf, cyclesOf}
+use Rattle.words.specs.Words.{isPause, isRepeat, isControl, repeats, loops, stops}
+use Rattle.forecast.specs.Rule.{linesOf, cyclesOf}
 use Rattle.forecast.specs.Rule.{wordsOf, closes, openCount, total}
 use Rattle.forecast.specs.Left.{ahead}
 use Rattle.forecast.specs.Pass.{added, passed, Room, Open}

@@ -6,7 +6,8 @@ use Prim.Native.Nat.{ℕ, _+_, _*_, _<_}
 use lib.ListN.{length}
 use Rattle.sound.specs.Channels.{wordAt}
 use Rattle.sound.specs.declared.Channel.{Channel}
-use Rattle.forecast.specs.Rule.{stops, loops, repeats, wordsOf}
+use Rattle.words.specs.Words.{stops, loops, repeats}
+use Rattle.forecast.specs.Rule.{wordsOf}
 
 -- a word that is no STOP, LOOP or REPEAT
 pub record Plain (w : ℕ) : Type 0 where

@@ -16,7 +16,7 @@ use Rattle.forecast.specs.Rule.{cyclesOf, wordsOf, total, hasStop, even,
 use Rattle.forecast.specs.Left.{waits, left, linesLeft, cyclesLeft}
 use Rattle.forecast.proofs.Playing.{Playing}
 use Rattle.forecast.specs.Demand.{didSit, Ready}
-use Rattle.forecast.proofs.Trace.{Trace, ended, aside, line}
+use Rattle.forecast.proofs.ChannelRun.{ChannelRun, ended, aside, line}
 use Rattle.forecast.proofs.Ahead.{ahead-total}
 use Rattle.forecast.proofs.Words.{some-word}
 use Rattle.forecast.proofs.Waits.{Counts, acts, sits, counts, turn-acts}
@@ -24,7 +24,7 @@ use Rattle.forecast.proofs.LinePlays.{Line, stops-there, plays-on, line
 use Rattle.forecast.proofs.Told.{Told, told-none, told-stop, told-more, told-same}
 
 -- runs of every length exist: lend the same RAM each time
-pub runs : (ram : List ℕ) (start m : ℕ) (c : Channel) → (ds : List Did) × Trace ram start c ds × (length ds ≡ m)
+pub runs : (ram : List ℕ) (start m : ℕ) (c : Channel) → (ds : List Did) × ChannelRun ram start c ds × (length ds ≡ m)
 runs ram start zero c = ([], ended, refl)
 runs ram start (suc m) c =
     let rest = runs ram start m (channelAfter ram c) in
@@ -55,7 +55,7 @@ module _ (ram : List ℕ) (start : ℕ) where
   cycles-aside a x = left-aside a _
 
   -- with no pause the first report is an instruction
-  first-acts : {c : Channel} {ds : List Did} → c .enabled ≡ true → c .pause ≡ 0 → Trace ram start c ds → 0 < length ds → didSit (getD ds 0 SatOut) ≡ false
+  first-acts : {c : Channel} {ds : List Did} → c .enabled ≡ true → c .pause ≡ 0 → ChannelRun ram start c ds → 0 < length ds → didSit (getD ds 0 SatOut) ≡ false
   unfolding waits
   first-acts on z ended h = absurd (omega arith)
   first-acts on z (aside a t) h = first-acts (a .alone .enabled on) (a .keeps .pause ∙ z) t h
@@ -84,7 +84,7 @@ module _ (ram : List ℕ) (start : ℕ) where
         by-line (plays-on h) = omega (arith, h .lines)
 
     -- the reports of a channel that plays, from wherever it is
-    pub trace-told : {c : Channel} {ds : List Did} → Playing ram start c → Trace ram start c ds → Told (linesLeft ram c) (λ a. cyclesLeft a ram c) ds
+    pub trace-told : {c : Channel} {ds : List Did} → Playing ram start c → ChannelRun ram start c ds → Told (linesLeft ram c) (λ a. cyclesLeft a ram c) ds
     trace-told p ended = told-none _ _ (line-left _ p)
     trace-told p (aside a t) = told-same (lines-aside a) (cycles-aside a) (trace-told (playing-aside a p) t)
     trace-told p (line {c = c} lent l e f t) =
@@ -121,7 +121,7 @@ pub record Plain (lines : ℕ) (cycles : Access → ℕ) (ds : List Did) : Type 
 
 pub plays :
     (ram : List ℕ) (start n : ℕ) (c : Channel) (ds : List Did) → hasStop (wordsOf ram (even start)) ≡ true → Ready start n c →
-    Trace ram (even start) c ds → Plain (linesForecast ram start n) (λ a. cyclesMeeting a ram start) ds
+    ChannelRun ram (even start) c ds → Plain (linesForecast ram start n) (λ a. cyclesMeeting a ram start) ds
 plays ram start n c ds listed ready t =
     record {
       told =

@@ -1,74 +1,100 @@
 -- From a run of calls, each known by its contract alone, to what one channel sees of it.
-use mathlib.Core.Path.{_≡_, refl, sym, _∙_, ap}
+use mathlib.Core.Path.{_≡_, refl, sym, _∙_}
 use mathlib.Core.Bool.{Bool, true, false}
-use mathlib.Core.List.{List}
+use mathlib.Core.List.{List, _∷_}
 use Prim.Native.Nat.{ℕ, _<_}
 use lib.Dec.{eqb}
 use borrow.Author.Tests.{eqb-true, eqb-false}
-use denote.Ref.{now}
+use Rattle.common.specs.Answers.{done}
+use Rattle.common.specs.Choice.{if}
 use Rattle.sound.specs.declared.Accesses.{Accesses}
-use Rattle.sound.specs.declared.Report.{Report}
-use Rattle.sound.specs.Line.{channelAfter, didOn, didOf}
+use Rattle.sound.specs.declared.Did.{Did}
+use Rattle.sound.specs.Line.{channelAfter, didOn}
 use Rattle.sound.proofs.Laws.{line-channel, line-did}
-use Rattle.chip.specs.declared.Chip.{Chip}
-use Rattle.chip.specs.declared.Stepped.{Stepped}
-use Rattle.words.specs.Answers.{served}
-use Rattle.chip.specs.Channels.{LeftAlone, Aside}
-use Rattle.chip.specs.Step.{stepAnswer, stepped, counted, Steps}
+use Rattle.chip.specs.Channels.{Keeps, LeftAlone, Aside}
+use Rattle.chip.specs.Step.{stepped, countersStepped, Steps}
 use Rattle.chip.proofs.ChannelLaws.{aside-self}
-use Rattle.runs.specs.Call.{Call}
-use Rattle.runs.specs.Ask.{Ask, asked, answerTo, servedChip, chipAfter}
-use Rattle.runs.proofs.Asks.{fixed, changed, unchanged}
-use Rattle.forecast.specs.Demand.{channel, LineStep, Run, ended, other, refused, line, didOver, Bounded}
+use Rattle.runs.specs.World.{World}
+use Rattle.runs.specs.Call.{Call, line, Reply, servedWorld}
+use Rattle.runs.specs.Run as run
+use Rattle.runs.specs.Run.{Made, Makes, Run, ended, on, Each}
+use Rattle.runs.proofs.Calls.{served-is, refused-is}
+use Rattle.runs.proofs.Views.{LineView, step, other, line-view}
+use Rattle.forecast.specs.Demand.{channel, LineStep, reportIn, stepBy, stepsOf, Allowed, didIn, didOver, Bounded}
 use Rattle.forecast.proofs.Spares.{effect}
-use Rattle.forecast.proofs.Trace.{Trace, ended as no-more, aside as call-passes, line as line-passes}
+use Rattle.forecast.proofs.ChannelRun.{ChannelRun, ended as no-more, aside as call-passes, line as line-passes}
 
--- a call sets the channel aside
-call-aside :
-    {c d : Chip} {answer : ℕ} (n : ℕ) → n < 3 →
-    Call c answer d → (answer ≡ 0 → LeftAlone (channel c n) (channel d n)) → Aside (channel c n) (channel d n)
-call-aside {c} {d} {answer} n h k alone = go (asked k) (fixed k .answer-is) (fixed k .chip-is) (eqb answer 0) refl
-  where
-    go :
-        (x : Ask) → answer ≡ answerTo c x → d ≡ chipAfter c x → (t : Bool) → eqb answer 0 ≡ t → Aside (channel c n) (channel d n)
-    go x a e true t =
-        record {
-          alone = alone (eqb-true answer 0 t);
-          keeps = rw (e ∙ changed (answerTo c x) (servedChip c x) c (sym a ∙ eqb-true answer 0 t)) (effect n h c x .keeps);
-        }
-    go x a e false t =
-        rw (e ∙ unchanged (answerTo c x) (servedChip c x) c (λ z. eqb-false answer 0 t (a ∙ z))) (aside-self (channel c n))
+-- a line step's contract, of the worlds before and after it
+stepping :
+    {w v : World} {a : Accesses} {r : Reply} → Makes w (line a) r v →
+    Steps (w .chip) (w .lent .ram) a (record { answer = r .answer; chip = v .chip; report = reportIn (r .told) })
+stepping (run.line κs ram a r s l) = rw (← s) l
 
--- a line step's promise, where it is served and where it is refused
-module _ {c d : Chip} {ram : List ℕ} {a : Accesses} {r : Stepped} (s : Steps c ram a r) (f : r .chip ≡ d) where
-  step-refused : (r .answer ≡ 0 → ⊥) → d ≡ c
-  step-refused no-zero = sym f ∙ s .chip ∙ unchanged (stepAnswer ram) (stepped ram c) c (λ z. no-zero (s .answer ∙ z))
+module _ (n : ℕ) (h : n < 3) {ram : List ℕ} {start : ℕ} where
+  -- a call that is no line step
+  call-seen :
+      {w v : World} {c : Call} {r : Reply} {ds : List Did} → Makes w c r v → Keeps (channel (w .chip) n) (channel (servedWorld w c .chip) n) →
+      (r .answer ≡ done → LeftAlone (channel (w .chip) n) (channel (v .chip) n)) → ChannelRun ram start (channel (v .chip) n) ds →
+      ChannelRun ram start (channel (w .chip) n) ds
+  call-seen {w} {v} {c} {r} k stays alone rest = call-passes (go (eqb (r .answer) done) refl) rest
+    where
+      go : (t : Bool) → eqb (r .answer) done ≡ t → Aside (channel (w .chip) n) (channel (v .chip) n)
+      go true t = record { alone = alone (eqb-true _ _ t); keeps = rw (served-is k (eqb-true _ _ t)) stays }
+      go false t = rw (refused-is k (eqb-false _ _ t)) (aside-self (channel (w .chip) n))
 
-  module _ (z : r .answer ≡ 0) where
-    step-chip : d ≡ stepped ram c
-    step-chip = sym f ∙ s .chip ∙ ap (λ (k : ℕ). served k (stepped ram c) c) (sym (s .answer) ∙ z)
+  -- a line step
+  line-seen :
+      {w v : World} {a : Accesses} {r : Reply} (ss : List LineStep) (k : Makes w (line a) r v) →
+      Allowed n ram start (record { before = w; asks = line a; reply = r; after = v }) →
+      ChannelRun ram start (channel (v .chip) n) (didOver n ss) →
+      ChannelRun ram start (channel (w .chip) n) (didOver n (stepBy (record { before = w; asks = line a; reply = r; after = v }) ss))
+  unfolding stepped countersStepped
+  line-seen {w} {v} {a} {r} ss k ok rest = go (eqb (r .answer) done) refl
+    where
+      s : LineStep
+      s = record { accesses = a; report = reportIn (r .told) }
 
-    step-channel : (n : ℕ) → n < 3 → channel d n ≡ channelAfter ram (channel c n)
-    unfolding stepped counted
-    step-channel n h = rw step-chip (line-channel ram (c .sound) n h)
+      did : r .answer ≡ done → didIn n s ≡ didOn (w .lent .ram) (channel (w .chip) n)
+      did z = let l = stepping k in rw (l .report, sym (l .answer) ∙ z) (line-did (w .lent .ram) a (w .chip .sound) n h)
 
-    step-did : (n : ℕ) → n < 3 → didOf (r .report .entries) n ≡ didOn ram (channel c n)
-    step-did n h = rw (s .report, sym (s .answer) ∙ z) (line-did ram a (c .sound) n h)
+      moved : r .answer ≡ done → channel (v .chip) n ≡ channelAfter (w .lent .ram) (channel (w .chip) n)
+      moved z = rw (served-is k z) (line-channel (w .lent .ram) (w .chip .sound) n h)
 
--- the run as channel n sees it
-pub seen :
-    {n start : ℕ} {ram : List ℕ} {c d : Chip} {steps : List LineStep} →
-    n < 3 → Run n ram start c steps d → Trace ram start (channel c n) (didOver n steps)
-seen h ended = no-more
-seen {n} h (other answer k alone rest) = call-passes (call-aside n h k alone) (seen h rest)
-seen {n} h (refused κs lent a r l no-zero f rest) = rw (← (step-refused l f no-zero)) (seen h rest)
-seen {n} h (line {report = report} κs lent a r l z has f g rest) =
-    line-passes (now lent) has (step-channel l f z n h) (ap (λ (x : Report). didOf (x .entries) n) (sym g) ∙ step-did l f z n h) (seen h rest)
+      go : (t : Bool) → eqb (r .answer) done ≡ t → ChannelRun ram start (channel (w .chip) n) (didOver n (if t (s ∷ ss) ss))
+      go true t =
+          let z = eqb-true _ _ t in
+          line-passes (w .lent .ram) (ok z) (moved z) (did z) rest
+      go false t = rw (← (refused-is k (eqb-false _ _ t))) rest
+
+  -- any call
+  one-seen :
+      {w v : World} {r : Reply} (ss : List LineStep) (c : Call) → LineView c → Makes w c r v →
+      Allowed n ram start (record { before = w; asks = c; reply = r; after = v }) →
+      ChannelRun ram start (channel (v .chip) n) (didOver n ss) →
+      ChannelRun ram start (channel (w .chip) n) (didOver n (stepBy (record { before = w; asks = c; reply = r; after = v }) ss))
+  one-seen ss c (step a) k ok rest = line-seen ss k ok rest
+  one-seen {w} ss c (other e) k ok rest = rw e (call-seen k (effect n h w c .keeps e) (λ z. rw e at (ok z)) rest)
+
+  -- the run as channel n sees it
+  pub seen :
+      {w v : World} {es : List Made} → Run w es v → Each (Allowed n ram start) es →
+      ChannelRun ram start (channel (w .chip) n) (didOver n (stepsOf es))
+  seen ended ok = no-more
+  seen (on {w} {c = c} {es = es} k rest) ok = one-seen (stepsOf es) c (line-view w c) k (ok .0) (seen rest (ok .1))
 
 -- no line of it takes over 34 cycles
-pub bounded : {n start : ℕ} {ram : List ℕ} {c d : Chip} {steps : List LineStep} → Run n ram start c steps d → Bounded steps
+one-bounded :
+    {w v : World} {r : Reply} (ss : List LineStep) (c : Call) → LineView c → Makes w c r v → Bounded ss →
+    Bounded (stepBy (record { before = w; asks = c; reply = r; after = v }) ss)
+unfolding Bounded
+one-bounded {r = r} ss c (step a) k rest = go (eqb (r .answer) done)
+  where
+    go : (t : Bool) → Bounded (if t (record { accesses = a; report = reportIn (r .told) } ∷ ss) ss)
+    go true = (stepping k .bound, rest)
+    go false = rest
+one-bounded ss c (other e) k rest = rw e rest
+
+pub bounded : {w v : World} {es : List Made} → Run w es v → Bounded (stepsOf es)
 unfolding Bounded
 bounded ended = tt
-bounded (other answer k alone rest) = bounded rest
-bounded (refused κs lent a r l no-zero f rest) = bounded rest
-bounded (line κs lent a r l z has f g rest) = (rw (← g) (l .bound), bounded rest)
+bounded (on {w} {c = c} {es = es} k rest) = one-bounded (stepsOf es) c (line-view w c) k (bounded rest)

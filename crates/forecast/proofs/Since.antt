@@ -6,7 +6,8 @@ use Prim.Native.Nat.{ℕ, zero, suc, _+_, _-_, _*_, _/_, _<_, _≤_}
 use native.Mathlib.Omega.{arith}
 use borrow.Author.Count.{below-more}
 use Rattle.sound.specs.Channels.{wordAt}
-use Rattle.forecast.specs.Rule.{stops, loops, repeats, wordsOf}
+use Rattle.words.specs.Words.{stops, loops, repeats}
+use Rattle.forecast.specs.Rule.{wordsOf}
 use Rattle.forecast.specs.Left.{costFrom, costBetween, ahead}
 use Rattle.forecast.proofs.Playing.{Plain, Since}
 use Rattle.forecast.proofs.Ahead.{ahead-plain, ahead-loop}

@@ -1,12 +1,12 @@
 -- What a call other than a line step does to a channel; and that a call which spares the channel by its arguments leaves it alone.
-use mathlib.Core.Path.{_≡_, sym, _∙_}
+use mathlib.Core.Path.{_≡_}
+use mathlib.Core.List.{[]}
 use Prim.Native.Nat.{ℕ, _<_}
 use native.Mathlib.Omega.{arith}
-use Rattle.words.specs.Answers.{done}
+use Rattle.common.specs.Answers.{done}
 use Rattle.chip.specs.declared.Chip.{Chip}
 use Rattle.chip.specs.Channels.{Keeps, LeftAlone, Aside}
-use Rattle.chip.specs.Ports.{selected, dataWritten, gateWritten}
-use Rattle.chip.proofs.ChannelLaws.{aside-self, select-sound, data-sound, gate-sound, acknowledge-leaves}
+use Rattle.chip.proofs.ChannelLaws.{aside-self}
 use Rattle.registers.specs.declared.address.ChannelRegister.{ChannelRegister}
 use Rattle.registers.specs.declared.address.ChannelRegister.the-variants.{StartLow, StartHigh, Prescale}
 use Rattle.registers.specs.declared.address.Register.the-variants.{Channel}
@@ -14,26 +14,13 @@ use Rattle.registers.specs.Registers.{registerWritten}
 use Rattle.registers.specs.Address.{registerAt}
 use Rattle.registers.proofs.ChannelWrites.{page-leaves, page-alone}
 use Rattle.registers.proofs.AddressLaws.{channel-address, dcsr-address}
-use Rattle.runs.specs.Call.{Call}
-use Rattle.page.specs.Record.{entryAddress, entryRegister, entryContents}
-use Rattle.page.specs.Page.{pageWritten}
-use Rattle.page.specs.Undo.{newest, undone}
-use Rattle.runs.specs.Ask.{Ask, bc, bd, gate, read, write, undo, ack, asked, answerTo, servedChip}
-use Rattle.runs.proofs.Asks.{fixed, changed}
+use Rattle.runs.specs.World.{World}
+use Rattle.runs.specs.Call.{Call, Reply, servedWorld}
+use Rattle.runs.specs.Sort.{sortOf, lineIn}
+use Rattle.runs.specs.Run.{Makes}
+use Rattle.runs.proofs.Calls.{served-is}
+use Rattle.runs.proofs.Views.{Edits, View, feeds, writes, undoes, steps, lends, plain, view}
 use Rattle.forecast.specs.Demand.{channel, NotWritten, Spares}
-
--- what a served call does to channel n: pause, line count, loop counter and mark stay, and it is left alone if the call spares it
-pub record Effect (n : ℕ) (c : Chip) (x : Ask) : Type 0 where
-  pub keeps : Keeps (channel c n) (channel (servedChip c x) n)
-  pub alone : Spares n c x → LeftAlone (channel c n) (channel (servedChip c x) n)
-
--- a call that sets the channel aside, whatever its arguments
-aside-effect : (n : ℕ) (c : Chip) (x : Ask) → Aside (channel c n) (channel (servedChip c x) n) → Effect n c x
-aside-effect n c x a = record { keeps = a .keeps; alone = λ s. a .alone }
-
--- a chip with all sound as it was
-same-sound : (c d : Chip) (n : ℕ) → d .sound ≡ c .sound → Aside (channel c n) (channel d n)
-same-sound c d n e = rw e (aside-self (channel c n))
 
 -- a page write that doesn't name the channel
 write-alone :
@@ -46,24 +33,37 @@ write-alone c a b n h s = page-alone c (registerAt a) b n h own (λ e. s .enable
     own StartHigh e = s .high (omega (arith, channel-address a n StartHigh e))
     own Prescale e = s .prescale (omega (arith, channel-address a n Prescale e))
 
-pub effect : (n : ℕ) → n < 3 → (c : Chip) (x : Ask) → Effect n c x
-unfolding pageWritten undone
-effect n h c (bc b) = aside-effect n c (bc b) (same-sound c (selected c b) n (select-sound c b))
-effect n h c (bd b) = aside-effect n c (bd b) (same-sound c (dataWritten c b) n (data-sound c b))
-effect n h c (gate b) = aside-effect n c (gate b) (same-sound c (gateWritten c b) n (gate-sound c b))
-effect n h c (read store a bus) = aside-effect n c (read store a bus) (aside-self (channel c n))
-effect n h c (write store a b) = record { keeps = page-leaves c (registerAt a) b n h; alone = write-alone c a b n h }
-effect n h c (undo store places) =
-    let e = newest c places in
-    record {
-      keeps = page-leaves c (entryRegister e) (entryContents e) n h;
-      alone = write-alone c (entryAddress e) (entryContents e) n h;
-    }
-effect n h c ack = aside-effect n c ack (acknowledge-leaves c n)
+-- what a served call does to channel n: pause, line count, loop counter and mark stay over all but a line step, and it is left alone if
+-- the call spares it
+pub record Effect (n : ℕ) (w : World) (c : Call) : Type 0 where
+  pub keeps : lineIn (sortOf c) ≡ [] → Keeps (channel (w .chip) n) (channel (servedWorld w c .chip) n)
+  pub alone : Spares n w (sortOf c) → LeftAlone (channel (w .chip) n) (channel (servedWorld w c .chip) n)
 
--- a served call that spares the channel leaves it alone
+-- a call that sets the channel aside, whatever its arguments
+aside-effect : (n : ℕ) (w : World) (c : Call) → Aside (channel (w .chip) n) (channel (servedWorld w c .chip) n) → Effect n w c
+aside-effect n w c a = record { keeps = λ e. a .keeps; alone = λ s. a .alone }
+
+-- a page write, and an undo
+module _ {w v : World} {address byte : ℕ} (n : ℕ) (h : n < 3) (e : Edits w v address byte) where
+  edit-keeps : Keeps (channel (w .chip) n) (channel (v .chip) n)
+  edit-keeps = rw (e .chip) (page-leaves (w .chip) (registerAt address) byte n h)
+
+  edit-alone : NotWritten n (channel (w .chip) n) address byte → LeftAlone (channel (w .chip) n) (channel (v .chip) n)
+  edit-alone s = rw (e .chip) (write-alone (w .chip) address byte n h s)
+
+by-view : (n : ℕ) → n < 3 → (w : World) (c : Call) → View w c → Effect n w c
+by-view n h w c (feeds b l) = aside-effect n w c (l .channel n)
+by-view n h w c (writes a b e) = record { keeps = λ z. edit-keeps n h e; alone = edit-alone n h e }
+by-view n h w c (undoes e) = record { keeps = λ z. edit-keeps n h e; alone = edit-alone n h e }
+by-view n h w c (steps a) = record { keeps = λ e. absurd (let z : _≡_ {A = ℕ} 0 1 = cc in omega arith); alone = λ s. absurd s }
+by-view n h w c (lends b) = aside-effect n w c (aside-self (channel (w .chip) n))
+by-view n h w c (plain s q l) = aside-effect n w c (l .channel n)
+
+pub effect : (n : ℕ) → n < 3 → (w : World) (c : Call) → Effect n w c
+effect n h w c = by-view n h w c (view w c)
+
+-- a call of a run that spares the channel is as a run asks it
 pub spared :
-    {c d : Chip} {answer : ℕ} (n : ℕ) → n < 3 → (k : Call c answer d) → Spares n c (asked k) → answer ≡ done →
-    LeftAlone (channel c n) (channel d n)
-spared {c} n h k s z =
-    rw (fixed k .chip-is, changed (answerTo c (asked k)) (servedChip c (asked k)) c (sym (fixed k .answer-is) ∙ z)) (effect n h c (asked k) .alone s)
+    {w v : World} {c : Call} {r : Reply} (n : ℕ) → n < 3 → Makes w c r v → Spares n w (sortOf c) → r .answer ≡ done →
+    LeftAlone (channel (w .chip) n) (channel (v .chip) n)
+spared {w} {c = c} n h k s z = rw (served-is k z) (effect n h w c .alone s)

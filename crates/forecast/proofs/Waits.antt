@@ -6,27 +6,28 @@ use Prim.Native.Nat.{ℕ, zero, suc, _+_, _-_, _*_}
 use native.Mathlib.Omega.{arith}
 use lib.Dec.{eqb, ltb, eqb·suc-zero}
 use borrow.Author.Tests.{lt-ltb, ltb-true, ltb-false}
-use Rattle.words.specs.Choice.{if, both}
+use Rattle.common.specs.Choice.{if, both}
 use Rattle.words.specs.Words.{kindOf, low12}
 use Rattle.sound.specs.declared.Channel.{Channel}
 use Rattle.sound.specs.declared.Did.the-variants.{SatOut}
-use Rattle.sound.specs.Channels.{wordAt, withPause, counted, active, fetched, played, turnOf}
-use Rattle.forecast.specs.Rule.{isPause, linesOf}
+use Rattle.sound.specs.Channels.{wordAt, withPause, pauseCounted, active, fetched, wordPlayed, turnOf}
+use Rattle.words.specs.Words.{isPause}
+use Rattle.forecast.specs.Rule.{linesOf}
 use Rattle.forecast.specs.Left.{waits}
 use Rattle.forecast.proofs.Moves.{moves}
 
 -- a channel that counts a line and acts, or counts one of the lines that it sits out
 pub data Counts (c : Channel) : Type 0 where
-  acts : (q : ℕ) → counted c ≡ withPause c 0 q → waits (c .prescale) (c .pause) (c .count) ≡ 0 → Counts c
+  acts : (q : ℕ) → pauseCounted c ≡ withPause c 0 q → waits (c .prescale) (c .pause) (c .count) ≡ 0 → Counts c
   sits :
-      (p q : ℕ) → counted c ≡ withPause c (suc p) q → waits (c .prescale) (c .pause) (c .count) ≡ suc (waits (c .prescale) (suc p) q) →
+      (p q : ℕ) → pauseCounted c ≡ withPause c (suc p) q → waits (c .prescale) (c .pause) (c .count) ≡ suc (waits (c .prescale) (suc p) q) →
       Counts c
 
 module _ (c : Channel) (on : c .enabled ≡ true) where
   by-pause : (p : ℕ) → c .pause ≡ p → Counts c
-  unfolding counted waits
+  unfolding pauseCounted waits
   by-pause zero e =
-      let stays : counted c ≡ c = simp (on, e) in
+      let stays : pauseCounted c ≡ c = simp (on, e) in
       acts (c .count) (stays ∙ ap (λ p. withPause c p (c .count)) e) (simp e)
   by-pause (suc p) e = by-prescale (ltb (c .prescale) (c .count + 1)) refl p e
     where
@@ -46,12 +47,12 @@ module _ (c : Channel) (on : c .enabled ≡ true) where
   is-active p q = rw on
 
   -- the line of a channel that acts, and of one that sits out
-  pub turn-acts : (ram : List ℕ) (q : ℕ) → counted c ≡ withPause c 0 q → turnOf ram c ≡ played (withPause c 0 q) (wordAt ram (c .address))
+  pub turn-acts : (ram : List ℕ) (q : ℕ) → pauseCounted c ≡ withPause c 0 q → turnOf ram c ≡ wordPlayed (withPause c 0 q) (wordAt ram (c .address))
   unfolding turnOf
   turn-acts ram q e = rw (e, is-active 0 q)
 
   pub turn-sits :
-      (ram : List ℕ) (p q : ℕ) → counted c ≡ withPause c (suc p) q → turnOf ram c ≡ record { channel = withPause c (suc p) q; did = SatOut }
+      (ram : List ℕ) (p q : ℕ) → pauseCounted c ≡ withPause c (suc p) q → turnOf ram c ≡ record { channel = withPause c (suc p) q; did = SatOut }
   unfolding turnOf
   turn-sits ram p q e = rw (e, is-active (suc p) q, eqb·suc-zero)
 
@@ -63,7 +64,7 @@ pause-lines n (suc m) e = omega arith
 
 -- a word's lines: its own, and those that it makes the channel wait
 pub word-lines :
-    (n w : ℕ) (c : Channel) → c .pause ≡ 0 → linesOf n w ≡ suc (waits n (played c w .channel .pause) (played c w .channel .count))
+    (n w : ℕ) (c : Channel) → c .pause ≡ 0 → linesOf n w ≡ suc (waits n (wordPlayed c w .channel .pause) (wordPlayed c w .channel .count))
 unfolding linesOf fetched waits
 word-lines n w c z = rw moves (by-pause (isPause (kindOf w)) (ltb 0 (low12 w)) refl)
   where

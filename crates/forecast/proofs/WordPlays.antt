@@ -6,13 +6,14 @@ use Prim.Native.Nat.{ℕ, zero, suc, _+_, _*_, _%_, _<_, _≤_}
 use native.Mathlib.Omega.{arith}
 use borrow.Author.Tests.{lt-ltb}
 use lib.Dec.{ltb}
-use Rattle.words.specs.Choice.{both}
+use Rattle.common.specs.Choice.{both}
 use Rattle.words.specs.Words.{kindOf, low12, loopBit}
 use Rattle.words.specs.declared.WordKind.{WordKind}
 use Rattle.words.specs.declared.WordKind.the-variants.{Load, Pause, Repeat, Control, Nothing}
 use Rattle.sound.specs.declared.Channel.{Channel}
-use Rattle.sound.specs.Channels.{wordAt, fetched, played}
-use Rattle.forecast.specs.Rule.{isRepeat, isControl, stops, loops, repeats, wordsOf, hasStop}
+use Rattle.sound.specs.Channels.{wordAt, fetched, wordPlayed}
+use Rattle.words.specs.Words.{isRepeat, isControl, stops, loops, repeats}
+use Rattle.forecast.specs.Rule.{wordsOf, hasStop}
 use Rattle.forecast.specs.Left.{costBetween, ahead, left}
 use Rattle.forecast.proofs.Playing.{Plain, Since, Playing}
 use Rattle.forecast.proofs.Ahead.{ahead-stop, ahead-plain, ahead-repeat, ahead-loop, ahead-total}
@@ -143,7 +144,7 @@ module _ (ram : List ℕ) (start : ℕ) (listed : hasStop (wordsOf ram start) �
 
     -- any word but a STOP
     pub word-passes :
-        Passes ram start (wordAt ram (c .address)) c (played c (wordAt ram (c .address)) .channel)
+        Passes ram start (wordAt ram (c .address)) c (wordPlayed c (wordAt ram (c .address)) .channel)
     unfolding fetched
     word-passes = by-loop (loops (wordAt ram (c .address))) refl
       where
@@ -151,7 +152,7 @@ module _ (ram : List ℕ) (start : ℕ) (listed : hasStop (wordsOf ram start) �
         w = wordAt ram (c .address)
 
         d : Channel
-        d = played c w .channel
+        d = wordPlayed c w .channel
 
         on : d .enabled ≡ true
         on = rw (moves, s) (p .enabled)

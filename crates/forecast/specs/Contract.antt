@@ -2,7 +2,7 @@
 use mathlib.Core.Path.{_≡_}
 use mathlib.Core.List.{List}
 use Prim.Native.Nat.{ℕ}
-use Rattle.words.specs.Answers.{done, served}
+use Rattle.common.specs.Answers.{done, served}
 use Rattle.forecast.specs.declared.Length.{Length}
 use Rattle.forecast.specs.Demand.{Demand}
 use Rattle.forecast.specs.Rule.{linesForecast, cyclesForecast, mostForecast, answerOf}

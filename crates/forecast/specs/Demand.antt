@@ -5,10 +5,8 @@ use mathlib.Core.List.{List, [], _∷_, map}
 use Prim.Native.Nat.{ℕ, _+_, _-_, _*_, _<_, _≤_}
 use lib.Dec.{leb}
 use lib.ListN.{length, take, getD}
-use contract.Lifetimes.{Lfts}
-use denote.Ref.{RefT, now}
-use Rattle.words.specs.Answers.{done}
-use Rattle.words.specs.Choice.{either, bit}
+use Rattle.common.specs.Answers.{done, served}
+use Rattle.common.specs.Choice.{either, bit}
 use Rattle.words.specs.Words.{isLoad, stopBit}
 use Rattle.words.specs.declared.WordKind.the-variants.{Load, Pause, Repeat, Control, Nothing}
 use Rattle.sound.specs.declared.Access.{Access}
@@ -21,17 +19,18 @@ use Rattle.sound.specs.declared.Report.{Report}
 use Rattle.sound.specs.Channels.{wordAt}
 use Rattle.sound.specs.Line.{channelOf, didOf, accessOf, ownCycles, taken}
 use Rattle.chip.specs.declared.Chip.{Chip}
-use Rattle.chip.specs.declared.Stepped.{Stepped}
 use Rattle.chip.specs.Channels.{LeftAlone}
-use Rattle.chip.proofs.line.step.Reads as step
-use Rattle.runs.specs.Call.{Call}
-use Rattle.page.specs.Record.{entryAddress, entryContents}
+use Rattle.chip.specs.Step.{idleReport}
+use Rattle.runs.specs.World.{World}
+use Rattle.runs.specs.Call.{Told, nothing, byte, vector, report}
+use Rattle.runs.specs.Sort.{Sort, feeds, writes, undoes, stepsLine, lends, plain, onLine}
+use Rattle.runs.specs.Run.{Made, Run, Each}
+use Rattle.page.specs.UndoRecord.{entryAddress, entryContents}
 use Rattle.page.specs.Undo.{newest}
-use Rattle.runs.specs.Ask.{Ask, bc, bd, gate, read, write, undo, ack}
 use Rattle.forecast.specs.Rule.{even, wordsOf}
 
--- ---- the calls of a run are line steps, and the calls of `Call` in the crate `runs`: port writes, page reads and writes, undo,
--- acknowledges
+-- ---- the calls of a run are those of `Call` in the crate `runs`: line steps, port writes, page reads and writes, undo, acknowledges;
+-- and the host may lend other buffers before each of them
 
 -- channel n of the chip
 abbrev pub channel : Chip → ℕ → Channel
@@ -60,40 +59,46 @@ pub record NotWritten (n : ℕ) (d : Channel) (a b : ℕ) : Type 0 where
   pub prescale : a ≡ 0x6c00 + 4 * n + 2 → ⊥
   pub enable : a ≡ 0x6c0f → d .enabled ≡ true → bit n b ≡ true
 
--- an undo counts as a write of what it puts back, to the address of the newest entry; no other call can name the channel
-abbrev pub Spares : ℕ → Chip → Ask → Type 0
-Spares n c (bc b) = Unit {0}
-Spares n c (bd b) = Unit {0}
-Spares n c (gate b) = Unit {0}
-Spares n c (read store a bus) = Unit {0}
-Spares n c (write store a b) = NotWritten n (channel c n) a b
-Spares n c (undo store places) = NotWritten n (channel c n) (entryAddress (newest c places)) (entryContents (newest c places))
-Spares n c ack = Unit {0}
+-- an undo counts as a write of what it puts back, to the address of the newest entry; no other call can name the channel;
+-- a line step is none of them
+abbrev pub Spares : ℕ → World → Sort → Type 0
+Spares n w (feeds b) = Unit {0}
+Spares n w (writes a b) = NotWritten n (channel (w .chip) n) a b
+Spares n w undoes =
+    let e = newest (w .chip) (w .lent .places) in NotWritten n (channel (w .chip) n) (entryAddress e) (entryContents e)
+Spares n w (stepsLine a) = ⊥
+Spares n w (lends b) = Unit {0}
+Spares n w plain = Unit {0}
 
 -- ---- a served line step: what the processor did at the 8255 for each channel, and the report
 pub record LineStep : Type 0 where
   pub accesses : Accesses
   pub report : Report
 
--- ---- the run, for channel n and the list at a start: each call gets the chip that the last one left. What the calls between the lines
--- must not do is asked by its effect, `LeftAlone`: address and prescale are as before, and an enable that was set still is. A law says
--- that a served call which spares the channel by its arguments does so. The processor may do at the 8255 whatever it likes. `steps` are
--- the served line steps, in order
-pub data Run (n : ℕ) (ram : List ℕ) (start : ℕ) : Chip → List LineStep → Chip → Type 0 where
-  ended : {c : Chip} → Run n ram start c [] c
-  other :
-      {c d e : Chip} {steps : List LineStep} (answer : ℕ) →
-      Call c answer d → (answer ≡ done → LeftAlone (channel c n) (channel d n)) → Run n ram start d steps e →
-      Run n ram start c steps e
-  refused :
-      {c d e : Chip} {steps : List LineStep} (κs : Lfts 1) (lent : RefT (List ℕ)) (a : Accesses) (r : Stepped) →
-      step.Learnt κs (c, (lent, (a, tt))) r (c, (lent, (a, tt))) →
-      (r .answer ≡ done → ⊥) → r .chip ≡ d → Run n ram start d steps e → Run n ram start c steps e
-  line :
-      {c d e : Chip} {report : Report} {steps : List LineStep} (κs : Lfts 1) (lent : RefT (List ℕ)) (a : Accesses) (r : Stepped) →
-      step.Learnt κs (c, (lent, (a, tt))) r (c, (lent, (a, tt))) →
-      r .answer ≡ done → Lent ram start (now lent) → r .chip ≡ d → r .report ≡ report →
-      Run n ram start d steps e → Run n ram start c (record { accesses = a; report = report } ∷ steps) e
+-- the report that a reply has
+abbrev pub reportIn : Told → Report
+reportIn nothing = idleReport
+reportIn (byte b) = idleReport
+reportIn (vector v) = idleReport
+reportIn (report r) = r
+
+-- the served line steps of a run, in order
+abbrev pub stepBy : Made → List LineStep → List LineStep
+stepBy e steps =
+    onLine (λ a. served (e .reply .answer) (record { accesses = a; report = reportIn (e .reply .told) } ∷ steps) steps) steps (e .asks)
+
+abbrev pub stepsOf : List Made → List LineStep
+stepsOf [] = []
+stepsOf (e ∷ es) = stepBy e (stepsOf es)
+
+-- ---- what is asked of each call of a run, for channel n and the list at a start: a served line step is lent the list's words; what the
+-- served calls between the lines must not do is asked by its effect, `LeftAlone`: address and prescale are as before, and an enable that
+-- was set still is. A law says that a served call which spares the channel by its arguments does so. The processor may do at the 8255
+-- whatever it likes
+abbrev pub Allowed : ℕ → List ℕ → ℕ → Made → Type 0
+Allowed n ram start e =
+    e .reply .answer ≡ done →
+    onLine (λ a. Lent ram start (e .before .lent .ram)) (LeftAlone (channel (e .before .chip) n) (channel (e .after .chip) n)) (e .asks)
 
 -- ---- what the channel executed is what the steps report of it; `ownCycles` of an access and a report is what it cost the channel itself
 
@@ -168,7 +173,6 @@ Bounded (s ∷ ss) = (s .report .cycles ≤ 34) × Bounded ss
 -- ---- demand 3: so for each of the three channels, whatever the others play, and for every run
 pub record Demand (ram : List ℕ) (start prescale lines cycles most : ℕ) : Type 0 where
   pub foretold :
-      (n : ℕ) → n < 3 → (c d : Chip) (steps : List LineStep) →
-      Ready start prescale (channel c n) → Run n ram (even start) c steps d → Foretold lines cycles most n steps
-  pub bounded :
-      (n : ℕ) (c d : Chip) (steps : List LineStep) → Run n ram (even start) c steps d → Bounded steps
+      (n : ℕ) → n < 3 → (w v : World) (log : List Made) → Ready start prescale (channel (w .chip) n) →
+      Run w log v → Each (Allowed n ram (even start)) log → Foretold lines cycles most n (stepsOf log)
+  pub bounded : (w v : World) (log : List Made) → Run w log v → Bounded (stepsOf log)

@@ -3,7 +3,8 @@ use mathlib.Core.Path.{_≡_}
 use mathlib.Core.List.{List, [], _∷_}
 use Prim.Native.Nat.{ℕ, _+_, _*_, _/_, _%_, _<_, _≤_}
 use lib.ListN.{length, getD}
-use Rattle.words.specs.Answers.{done}
+use Rattle.common.specs.Answers.{done}
+use Rattle.common.specs.Sizes.{ramBytes}
 use Rattle.sound.specs.declared.Channel.{Channel}
 use Rattle.sound.specs.Channels.{wordAt}
 use Rattle.sound.specs.Line.{channelAfter}
@@ -63,9 +64,9 @@ pub record Pens (mode b : ℕ) (ps : List ℕ) : Type 0 where
 
 abbrev pub Claim : Case → Type 0
 Claim (forecasts ws prescale lines cycles) =
-    (ram : List ℕ) (start : ℕ) → length ram ≡ 65536 → start % 2 ≡ 0 → start + length ws * 2 ≤ 65536 → Has ram start ws →
+    (ram : List ℕ) (start : ℕ) → length ram ≡ ramBytes → start % 2 ≡ 0 → start + length ws * 2 ≤ ramBytes → Has ram start ws →
     Forecast ws prescale lines cycles ram start
-Claim (ends w a lines address) = (ram : List ℕ) → length ram ≡ 65536 → wordAt ram a ≡ w → End w a lines address ram
+Claim (ends w a lines address) = (ram : List ℕ) → length ram ≡ ramBytes → wordAt ram a ≡ w → End w a lines address ram
 Claim (shows address rc b) = byteAddress (characterAt address 0) (rowLine rc 0) 0 ≡ b
 Claim (pens mode b ps) = Pens mode b ps
 

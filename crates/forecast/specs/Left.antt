@@ -1,15 +1,12 @@
 -- What is left of a list while a channel plays it: lines to its STOP, and cycles. Of the channel only the address, the prescale and what
 -- counts (pause with its line count, loop counter with its mark) are used, and RAM.
-use mathlib.Core.Path.{_≡_}
-use mathlib.Core.Bool.{true, false}
 use mathlib.Core.List.{List}
-use Prim.Native.Nat.{ℕ, zero, suc, _+_, _-_, _*_, _/_, _<_}
-use lib.ListN.{length}
-use Rattle.words.specs.Choice.{if}
+use Prim.Native.Nat.{ℕ, zero, suc, _+_, _-_, _*_, _/_}
+use Rattle.common.specs.Choice.{if}
 use Rattle.sound.specs.Channels.{wordAt}
 use Rattle.sound.specs.declared.Access.{Access}
 use Rattle.sound.specs.declared.Channel.{Channel}
-use Rattle.forecast.specs.Rule.{stops, loops, repeats, linesOf, cyclesOf, wordsOf, closes, total}
+use Rattle.forecast.specs.Rule.{linesOf, cyclesOf, wordsOf, closes, total}
 
 -- the lines that a pause still sits out before the next word. With p + 1 to go, p of them are prescale + 1 lines each; the one that is
 -- running has prescale less its line count, since on the line that would be its last the next word is executed

@@ -4,47 +4,14 @@ use mathlib.Core.List.{List, [], _∷_}
 use Prim.Native.Nat.{ℕ, zero, suc, _+_, _-_, _*_, _/_}
 use lib.Dec.{eqb, ltb}
 use lib.ListN.{length, take, drop}
-use Rattle.words.specs.Choice.{if, both, either}
-use Rattle.words.specs.Answers.{done, wrongLength, noStop}
-use Rattle.words.specs.Words.{kindOf, isLoad, low12, loopBit, stopBit}
-use Rattle.words.specs.declared.WordKind.{WordKind}
-use Rattle.words.specs.declared.WordKind.the-variants.{Load, Pause, Repeat, Control, Nothing}
+use Rattle.common.specs.Choice.{if, both, either}
+use Rattle.common.specs.Answers.{done, wrongLength, noStop}
+use Rattle.common.specs.Sizes.{ramBytes}
+use Rattle.words.specs.Words.{kindOf, isLoad, isPause, low12, repeats, loops, stops}
 use Rattle.sound.specs.declared.Access.{Access}
 use Rattle.sound.specs.declared.Access.the-variants.{Off, PsgWrite}
 use Rattle.sound.specs.Channels.{wordAt}
 use Rattle.sound.specs.Line.{disturbance}
-
--- a word's kind, asked
-abbrev pub isPause : WordKind → Bool
-isPause Load = false
-isPause Pause = true
-isPause Repeat = false
-isPause Control = false
-isPause Nothing = false
-
-abbrev pub isRepeat : WordKind → Bool
-isRepeat Load = false
-isRepeat Pause = false
-isRepeat Repeat = true
-isRepeat Control = false
-isRepeat Nothing = false
-
-abbrev pub isControl : WordKind → Bool
-isControl Load = false
-isControl Pause = false
-isControl Repeat = false
-isControl Control = true
-isControl Nothing = false
-
--- the word is a REPEAT; has LOOP; has STOP
-unfoldable pub repeats : ℕ → Bool
-repeats w = isRepeat (kindOf w)
-
-unfoldable pub loops : ℕ → Bool
-loops w = both (isControl (kindOf w)) (loopBit (low12 w))
-
-unfoldable pub stops : ℕ → Bool
-stops w = both (isControl (kindOf w)) (stopBit (low12 w))
 
 -- PAUSE M above 0 is M x (prescale + 1) lines, any other word 1
 unfoldable pub linesOf : ℕ → ℕ → ℕ
@@ -61,7 +28,7 @@ wordsFrom ram (suc n) a = wordAt ram a ∷ elim (stops (wordAt ram a)) [ true �
 
 -- the words from an address to FFFEh, through the first STOP
 unfoldable pub wordsOf : List ℕ → ℕ → List ℕ
-wordsOf ram a = wordsFrom ram ((65536 - a) / 2) a
+wordsOf ram a = wordsFrom ram ((ramBytes - a) / 2) a
 
 -- a STOP stands among the words
 unfoldable pub hasStop : List ℕ → Bool
@@ -108,7 +75,7 @@ mostForecast ram start = cyclesMeeting PsgWrite ram start
 -- 1 for RAM of another length, 6 where no STOP stands from the start to FFFEh, exactly then
 unfoldable pub answerOf : List ℕ → ℕ → ℕ
 answerOf ram start =
-    if (eqb (length ram) 65536) (if (hasStop (wordsOf ram (even start))) done noStop) wrongLength
+    if (eqb (length ram) ramBytes) (if (hasStop (wordsOf ram (even start))) done noStop) wrongLength
 
 -- the bytes of the list, those of its STOP with them
 unfoldable pub listOf : List ℕ → ℕ → List ℕ

@@ -1,22 +1,18 @@
 // The forecast of a sound list: its lines and cycles before it plays.
+use common::answer::DONE;
+use common::answer::NO_STOP;
+use common::answer::WRONG_LENGTH;
+use common::size::RAM;
 use sound::Access;
-use words::WordKind;
-use words::answer::DONE;
-use words::answer::NO_STOP;
-use words::answer::WRONG_LENGTH;
 ghost use mathlib.Core.Path.{_≡_};
 ghost use mathlib.Core.List.{[]};
 ghost use Prim.Native.Nat.{_^_, _≤_};
-ghost use Rattle.words.specs.Answers.{served};
-ghost use Rattle.forecast.specs.Rule.{isPause, isRepeat, isControl, repeats, loops, stops};
+ghost use Rattle.common.specs.Answers.{served};
 ghost use Rattle.forecast.specs.Rule.{linesOf, cyclesOf, openCount, answerOf, listOf};
 ghost use Rattle.forecast.specs.Contract.{Forecasts};
 ghost use Rattle.forecast.specs.Pass.{added, passed, Room, Open, bytesFrom};
 
-// The length of RAM.
-const RAM_BYTES: usize = 65536;
-
-// The address of its last word, FFFEh.
+// The address of the last word of RAM, FFFEh.
 const LAST_WORD: usize = 65534;
 
 // What the forecast answers: a number of the table, and where it is 0 the list's lines, the least cycles and the most.
@@ -27,71 +23,11 @@ pub struct Length {
     pub most: u64,
 }
 
-// Whether the kind is that of a PAUSE.
-fn is_pause(kind: WordKind) -> bool
-    ensures { λ r. ⌜ r ≡ isPause kind ⌝ }
-{
-    match kind {
-        WordKind::Load => false,
-        WordKind::Pause => true,
-        WordKind::Repeat => false,
-        WordKind::Control => false,
-        WordKind::Nothing => false,
-    }
-}
-
-// Whether the kind is that of a REPEAT.
-fn is_repeat(kind: WordKind) -> bool
-    ensures { λ r. ⌜ r ≡ isRepeat kind ⌝ }
-{
-    match kind {
-        WordKind::Load => false,
-        WordKind::Pause => false,
-        WordKind::Repeat => true,
-        WordKind::Control => false,
-        WordKind::Nothing => false,
-    }
-}
-
-// Whether the kind is that of a control word.
-fn is_control(kind: WordKind) -> bool
-    ensures { λ r. ⌜ r ≡ isControl kind ⌝ }
-{
-    match kind {
-        WordKind::Load => false,
-        WordKind::Pause => false,
-        WordKind::Repeat => false,
-        WordKind::Control => true,
-        WordKind::Nothing => false,
-    }
-}
-
-// Whether a word is a REPEAT.
-fn repeats(word: u16) -> bool
-    ensures { λ r. ⌜ r ≡ repeats word ⌝ }
-{
-    is_repeat(words::kind_of(word))
-}
-
-// Whether a word has LOOP.
-fn loops(word: u16) -> bool
-    ensures { λ r. ⌜ r ≡ loops word ⌝ }
-{
-    is_control(words::kind_of(word)) && words::loop_bit(words::low_12(word))
-}
-
-// Whether a word has STOP.
-fn stops(word: u16) -> bool
-    ensures { λ r. ⌜ r ≡ stops word ⌝ }
-{
-    is_control(words::kind_of(word)) && words::stop_bit(words::low_12(word))
-}
-
 // The lines of one pass of a word.
 fn lines_of(word: u16, prescale: u8) -> u64
     ensures { λ r. ⌜ r ≡ linesOf prescale word ⌝ }
 {
-    if !is_pause(words::kind_of(word)) {
+    if !words::is_pause(words::kind_of(word)) {
         return 1;
     }
     let low = words::low_12(word);
@@ -115,10 +51,10 @@ fn cycles_of(word: u16, access: Access) -> u64
 fn open_count(count: u16, word: u16) -> u16
     ensures { λ r. ⌜ r ≡ openCount count word ⌝ }
 {
-    if repeats(word) {
+    if words::repeats(word) {
         return words::low_12(word);
     }
-    if loops(word) {
+    if words::loops(word) {
         return 0;
     }
     count
@@ -142,16 +78,16 @@ impl Sums {
         let body = self.since + cost;
         let again = count as u64 * body;
         let looped = total + again;
-        if stops(word) {
+        if words::stops(word) {
             return Sums { total, since: body };
         }
-        if loops(word) {
+        if words::loops(word) {
             return Sums {
                 total: looped,
                 since: 0,
             };
         }
-        if repeats(word) {
+        if words::repeats(word) {
             return Sums { total, since: 0 };
         }
         Sums { total, since: body }
@@ -204,7 +140,7 @@ fn refused(answer: u8) -> Length
 pub fn forecast(ram: &[u8], start: u16, prescale: u8) -> Length
     ensures { λ r. ⌜ Forecasts (now (ram .entry)) start prescale r ⌝ }
 {
-    if ram.len() != RAM_BYTES {
+    if ram.len() != RAM {
         return refused(WRONG_LENGTH);
     }
     let none = Sums { total: 0, since: 0 };
@@ -218,7 +154,7 @@ pub fn forecast(ram: &[u8], start: u16, prescale: u8) -> Length
     while at <= LAST_WORD {
         let word = sound::word_at(ram, at as u16);
         scan = scan.passed(word, prescale);
-        if stops(word) {
+        if words::stops(word) {
             return Length {
                 answer: DONE,
                 lines: scan.lines.total,
@@ -239,7 +175,7 @@ fn bytes_from(ram: &[u8], first: usize) -> usize
     let mut at = first;
     while at <= LAST_WORD {
         let word = sound::word_at(ram, at as u16);
-        if stops(word) {
+        if words::stops(word) {
             return at + 2 - first;
         }
         at += 2;
@@ -251,7 +187,7 @@ fn bytes_from(ram: &[u8], first: usize) -> usize
 pub fn list(ram: &[u8], start: u16) -> &[u8]
     ensures { λ r. ⌜ now r ≡ served (answerOf (now (ram .entry)) start) (listOf (now (ram .entry)) start) [] ⌝ }
 {
-    if ram.len() != RAM_BYTES {
+    if ram.len() != RAM {
         return &ram[..0];
     }
     let first = start as usize / 2 * 2;

@@ -3,15 +3,17 @@ use mathlib.Core.Path.{_≡_, refl, ap, sym, _∙_}
 use mathlib.Core.Bool.{Bool, true, false}
 use mathlib.Core.List.{List, [], _∷_}
 use Prim.Native.Nat.{ℕ, _+_, _≤_, _<_}
+use native.Mathlib.Nat.{zero-add}
 use native.Mathlib.Omega.{arith}
 use borrow.Author.Tests.{le-leb, lt-leb}
 use lib.Dec.{leb}
 use lib.ListN.{length, length-append}
-use Rattle.words.specs.Answers.{done, notListing, tooSmall}
+use Rattle.common.specs.Answers.{done, notListing, tooSmall}
+use Rattle.common.specs.Storing.{Puts}
 use Rattle.listing.specs.Text.{textOf, Parsed}
 use Rattle.listing.specs.Print.{Printing}
 use Rattle.listing.specs.Read.{Reading, readAnswer, badLine}
-use Rattle.listing.specs.Passes.{Written, none, Checked, Listed, Stored}
+use Rattle.listing.specs.Passes.{none, Checked, Listed, Stored}
 use Rattle.listing.proofs.Texts.{size-least}
 use Rattle.listing.proofs.Parsing.{parsed-once}
 
@@ -21,10 +23,10 @@ module _ {words before : List ℕ} {fit : Bool} (e : fit ≡ leb (length (textOf
       let g : leb (length (textOf words)) (length before) ≡ false = sym e ∙ f in
       record { answered = rw g; sized = rw g; buffer = rw g }
 
-  pub print-served : {after : List ℕ} {size : ℕ} → fit ≡ true → Written words before after size → Printing words before after done size
+  pub print-served : {after : List ℕ} {size : ℕ} → fit ≡ true → Puts before 0 (textOf words) after size → Printing words before after done size
   print-served f w =
       let g : leb (length (textOf words)) (length before) ≡ true = sym e ∙ f in
-      record { answered = rw g; sized = rw g (w .sized); buffer = rw g (w .buffer) }
+      record { answered = rw g; sized = rw g (w .place ∙ zero-add _); buffer = rw g (w .stored) }
 
 no-rest : (rest : List ℕ) → none rest ≡ true → rest ≡ []
 no-rest [] e = refl

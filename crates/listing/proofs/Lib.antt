@@ -4,4 +4,5 @@ pub mod Parsing
 pub mod Stages
 pub mod Answers
 pub mod RoundTrip
+pub mod Possible
 pub mod BadLine

@@ -4,37 +4,24 @@ use mathlib.Core.Bool.{Bool, true, false}
 use mathlib.Core.List.{List, [], _∷_, _++_, append-assoc, append-nil}
 use Prim.Native.Nat.{ℕ, zero, suc, _≤_, _<_}
 use native.Mathlib.Omega.{arith}
-use borrow.Author.Tests.{eq-eqb, eqb-true, ltb-true, ltb-false}
-use lib.Dec.{eqb, ltb}
+use borrow.Author.Tests.{ltb-true, ltb-false}
+use lib.Dec.{ltb}
 use lib.ListN.{length, drop, length-append}
-use Rattle.words.specs.Choice.{if}
-use Rattle.line.specs.Line.{lineOf, begins}
-use Rattle.line.specs.Guess.{guessOf}
-use Rattle.line.proofs.Lines.{some}
-use Rattle.line.proofs.Guessing.{guessed, same-word, same-rest}
+use Rattle.common.specs.Lists.{begins}
+use Rattle.common.proofs.Begins.{begins-with, begins-true}
+use Rattle.mnemonic.specs.Mnemonic.{textLine}
+use Rattle.guess.specs.Guess.{guessOf}
+use Rattle.mnemonic.proofs.Lines.{some}
+use Rattle.guess.proofs.Guessing.{guessed, same-word, same-rest}
 use Rattle.listing.specs.Text.{textOf, Words, NoLine, Parsed}
-
--- a text begins with another exactly if it is that one and something more
-pub begins-with : (xs more : List ℕ) → begins xs (xs ++ more) ≡ true
-begins-with [] more = refl
-begins-with (x ∷ xs) more = rw (eq-eqb x x refl) (begins-with xs more)
-
-pub begins-true : (xs s : List ℕ) → begins xs s ≡ true → s ≡ xs ++ drop (length xs) s
-begins-true [] s e = refl
-begins-true (x ∷ xs) [] e = absurd (let z : _≡_ {A = ℕ} 0 1 = cc in omega arith)
-begins-true (x ∷ xs) (y ∷ s) e = by-head (eqb x y) refl (begins-true xs s)
-  where
-    by-head : (t : Bool) → eqb x y ≡ t → (begins xs s ≡ true → s ≡ xs ++ drop (length xs) s) → y ∷ s ≡ x ∷ (xs ++ drop (length xs) s)
-    by-head true f tail = let g : begins xs s ≡ true = rw f at e in rw (eqb-true x y f) (ap (λ t. y ∷ t) (tail g))
-    by-head false f tail = absurd (let g : false ≡ true = rw f at e in let z : _≡_ {A = ℕ} 0 1 = cc in omega arith)
 
 once :
     (ws vs r s : List ℕ) → Words ws → Words vs → NoLine r → NoLine s → textOf ws ++ r ≡ textOf vs ++ s → (ws ≡ vs) × (r ≡ s)
 once [] [] r s a b p q e = (refl, e)
-once [] (v ∷ vs) r s a b p q e = absurd (p v (textOf vs ++ s) (b .0) (e ∙ append-assoc (lineOf v) (textOf vs) s))
-once (w ∷ ws) [] r s a b p q e = absurd (q w (textOf ws ++ r) (a .0) (sym e ∙ append-assoc (lineOf w) (textOf ws) r))
+once [] (v ∷ vs) r s a b p q e = absurd (p v (textOf vs ++ s) (b .0) (e ∙ append-assoc (textLine v) (textOf vs) s))
+once (w ∷ ws) [] r s a b p q e = absurd (q w (textOf ws ++ r) (a .0) (sym e ∙ append-assoc (textLine w) (textOf ws) r))
 once (w ∷ ws) (v ∷ vs) r s a b p q e =
-    let f : lineOf w ++ (textOf ws ++ r) ≡ lineOf v ++ (textOf vs ++ s) = sym (append-assoc (lineOf w) (textOf ws) r) ∙ e ∙ append-assoc (lineOf v) (textOf vs) s in
+    let f : textLine w ++ (textOf ws ++ r) ≡ textLine v ++ (textOf vs ++ s) = sym (append-assoc (textLine w) (textOf ws) r) ∙ e ∙ append-assoc (textLine v) (textOf vs) s in
     let x = same-word w v (textOf ws ++ r) (textOf vs ++ s) (a .0) (b .0) f in
     let y = once ws vs r s (a .1) (b .1) p q (same-rest w v (textOf ws ++ r) (textOf vs ++ s) (a .0) (b .0) f) in
     (cc, y .1)
@@ -53,27 +40,27 @@ text-parses ws a = record { whole = sym (append-nil (textOf ws)); each = a; stop
 
 -- a text begins with the line of a word, or with none
 data First (text : List ℕ) : Type 0 where
-  one : (w : ℕ) → w < 65536 → text ≡ lineOf w ++ drop (length (lineOf w)) text → First text
+  one : (w : ℕ) → w < 65536 → text ≡ textLine w ++ drop (length (textLine w)) text → First text
   none : NoLine text → First text
 
 first : (text : List ℕ) → First text
 first text = by-word (ltb (guessOf text) 65536) refl
   where
-    never : ((more : List ℕ) → guessOf text < 65536 → text ≡ lineOf (guessOf text) ++ more → ⊥) → First text
+    never : ((more : List ℕ) → guessOf text < 65536 → text ≡ textLine (guessOf text) ++ more → ⊥) → First text
     never f =
         none (λ w more h e.
         let g : guessOf text ≡ w = ap guessOf e ∙ guessed w more h in
         f more (rw g h) (rw g e))
 
-    by-line : guessOf text < 65536 → (t : Bool) → begins (lineOf (guessOf text)) text ≡ t → First text
-    by-line h true e = one (guessOf text) h (begins-true (lineOf (guessOf text)) text e)
+    by-line : guessOf text < 65536 → (t : Bool) → begins (textLine (guessOf text)) text ≡ t → First text
+    by-line h true e = one (guessOf text) h (begins-true (textLine (guessOf text)) text e)
     by-line h false e =
         never (λ more g f.
-        let t : begins (lineOf (guessOf text)) text ≡ true = ap (begins (lineOf (guessOf text))) f ∙ begins-with (lineOf (guessOf text)) more in
+        let t : begins (textLine (guessOf text)) text ≡ true = ap (begins (textLine (guessOf text))) f ∙ begins-with (textLine (guessOf text)) more in
         let z : _≡_ {A = ℕ} 0 1 = cc in omega arith)
 
     by-word : (t : Bool) → ltb (guessOf text) 65536 ≡ t → First text
-    by-word true e = by-line (ltb-true (guessOf text) 65536 e) (begins (lineOf (guessOf text)) text) refl
+    by-word true e = by-line (ltb-true (guessOf text) 65536 e) (begins (textLine (guessOf text)) text) refl
     by-word false e = never (λ more g f. omega (arith, ltb-false (guessOf text) 65536 e))
 
 -- a text's words and its rest
@@ -86,14 +73,14 @@ pub record Parts (text : List ℕ) : Type 0 where
 parts : (text : List ℕ) → First text → ((later : List ℕ) → length later < length text → Parts later) → Parts text
 parts text (none s) shorter = record { words = []; rest = text; parsed = record { whole = refl; each = tt; stops = s } }
 parts text (one w b e) shorter =
-    let later = drop (length (lineOf w)) text in
+    let later = drop (length (textLine w)) text in
     let p = shorter later (omega (arith, some w, simp length-append at (ap length e))) in
     record {
       words = w ∷ p .words;
       rest = p .rest;
       parsed =
           record {
-            whole = e ∙ ap (λ t. lineOf w ++ t) (p .parsed .whole) ∙ sym (append-assoc (lineOf w) (textOf (p .words)) (p .rest));
+            whole = e ∙ ap (λ t. textLine w ++ t) (p .parsed .whole) ∙ sym (append-assoc (textLine w) (textOf (p .words)) (p .rest));
             each = (b, p .parsed .each);
             stops = p .parsed .stops;
           };

@@ -8,15 +8,17 @@ use native.Mathlib.Numerals.{add-one}
 use native.Mathlib.Omega.{arith}
 use lib.ListN.{length, take, drop, getD, set, length-append, length-drop, drop-of-length-le}
 use lib.Seq.{sets, take-all, drop-cons, drop-drop, drop-append-seam}
-use Rattle.words.proofs.Order.{either-side}
-use Rattle.line.specs.Line.{lineOf, begins}
-use Rattle.line.specs.Guess.{guessOf}
-use Rattle.line.proofs.Lines.{some}
-use Rattle.line.proofs.Guessing.{guessed}
-use Rattle.line.proofs.Putting.{put-more}
+use Rattle.common.proofs.Order.{either-side}
+use Rattle.common.specs.Lists.{begins}
+use Rattle.common.proofs.Begins.{begins-with, begins-true}
+use Rattle.common.proofs.Storing.{put-more}
+use Rattle.mnemonic.specs.Mnemonic.{textLine}
+use Rattle.guess.specs.Guess.{guessOf}
+use Rattle.mnemonic.proofs.Lines.{some}
+use Rattle.guess.proofs.Guessing.{guessed}
 use Rattle.listing.specs.Text.{textOf, Words}
 use Rattle.listing.specs.Passes.{Checked, Listed, Stored}
-use Rattle.listing.proofs.Parsing.{begins-with, begins-true, parsed-once, parses, wordsOf, restOf}
+use Rattle.listing.proofs.Parsing.{parsed-once, parses, wordsOf, restOf}
 
 -- the part of a text from a place to its end
 abbrev pub from : List ℕ → ℕ → List ℕ
@@ -53,18 +55,18 @@ module _ {text : List ℕ} {at i : ℕ} (s : Stage text at i) where
 
   module _ (h : i < length (wordsOf text)) where
     -- before it the line of the next word is
-    next-line : drop at text ≡ lineOf (getD (wordsOf text) i 0) ++ (textOf (drop (suc i) (wordsOf text)) ++ restOf text)
+    next-line : drop at text ≡ textLine (getD (wordsOf text) i 0) ++ (textOf (drop (suc i) (wordsOf text)) ++ restOf text)
     next-line = s .left ∙ simp (drop-cons (wordsOf text) i 0 h, append-assoc)
 
-    line-in : at + length (lineOf (getD (wordsOf text) i 0)) ≤ length text
+    line-in : at + length (textLine (getD (wordsOf text) i 0)) ≤ length text
     line-in = omega (arith, some (getD (wordsOf text) i 0), simp (length-drop, length-append) at (ap length next-line))
 
     pub word-is : {word : ℕ} → word ≡ guessOf (from text at) → word ≡ getD (wordsOf text) i 0
     word-is e = e ∙ ap guessOf (from-drop text at ∙ next-line) ∙ guessed _ _ (words-at (wordsOf text) i (parses text .parsed .each) h)
 
-    pub turn : {word n : ℕ} → word ≡ guessOf (from text at) → n ≡ length (lineOf word) → Turn text at i n
+    pub turn : {word n : ℕ} → word ≡ guessOf (from text at) → n ≡ length (textLine word) → Turn text at i n
     turn {word} {n} e f =
-        let g : n ≡ length (lineOf (getD (wordsOf text) i 0)) = f ∙ ap (λ w. length (lineOf w)) (word-is e) in
+        let g : n ≡ length (textLine (getD (wordsOf text) i 0)) = f ∙ ap (λ w. length (textLine w)) (word-is e) in
         record {
           byte = omega (arith, some (getD (wordsOf text) i 0));
           inside = omega (arith, line-in);
@@ -72,26 +74,26 @@ module _ {text : List ℕ} {at i : ℕ} (s : Stage text at i) where
               record {
                 left =
                     sym (drop-drop n at text) ∙ ap (drop n) next-line
-                    ∙ rw (g, add-one) (drop-append-seam (lineOf (getD (wordsOf text) i 0)) (textOf (drop (suc i) (wordsOf text)) ++ restOf text));
+                    ∙ rw (g, add-one) (drop-append-seam (textLine (getD (wordsOf text) i 0)) (textOf (drop (suc i) (wordsOf text)) ++ restOf text));
                 within = omega arith;
               };
         }
 
-  module _ {word : ℕ} {same : Bool} (e : same ≡ begins (lineOf word) (from text at)) where
+  module _ {word : ℕ} {same : Bool} (e : same ≡ begins (textLine word) (from text at)) where
     -- a text that goes on with the line of a word has a next word
     pub next : word < 65536 → same ≡ true → i < length (wordsOf text)
     next b f =
         either-side i (length (wordsOf text)) (λ h. h)
         (λ h. absurd
         (parses text .parsed .stops word _ b
-        (sym (from-drop text at ∙ rest-left h) ∙ begins-true (lineOf word) (from text at) (sym e ∙ f))))
+        (sym (from-drop text at ∙ rest-left h) ∙ begins-true (textLine word) (from text at) (sym e ∙ f))))
 
     -- one that does not go on with the line of its guess has none
     no-next : word ≡ guessOf (from text at) → same ≡ false → length (wordsOf text) ≤ i
     no-next g f =
         either-side i (length (wordsOf text))
         (λ h. absurd
-        (let t : same ≡ true = e ∙ rw (word-is h g, from-drop text at, next-line h) (begins-with (lineOf (getD (wordsOf text) i 0)) _) in
+        (let t : same ≡ true = e ∙ rw (word-is h g, from-drop text at, next-line h) (begins-with (textLine (getD (wordsOf text) i 0)) _) in
         let z : _≡_ {A = ℕ} 0 1 = cc in omega arith))
         (λ h. h)
 

@@ -3,18 +3,17 @@ use mathlib.Core.Path.{_≡_, refl, ap, sym, _∙_}
 use mathlib.Core.Bool.{true, false}
 use mathlib.Core.List.{List, [], _∷_, _++_, append-assoc, append-nil}
 use Prim.Native.Nat.{ℕ, _+_, _≤_, _<_}
-use native.Mathlib.Nat.{zero-add}
 use native.Mathlib.Numerals.{add-one}
 use native.Mathlib.Omega.{arith}
 use borrow.Author.Tests.{le-leb, lt-leb}
 use lib.Dec.{leb}
 use lib.ListN.{length, take, drop, getD, length-append, take-append-drop}
-use lib.Seq.{sets, take-suc, take-all}
-use Rattle.words.proofs.Lists.{sets-append}
-use Rattle.line.specs.Line.{lineOf, Put}
-use Rattle.line.proofs.Lines.{some}
+use lib.Seq.{take-suc, take-all}
+use Rattle.common.specs.Storing.{Puts, PutsIfRoom}
+use Rattle.common.proofs.Storing.{then-put, had-room}
+use Rattle.mnemonic.specs.Mnemonic.{textLine}
+use Rattle.mnemonic.proofs.Lines.{some}
 use Rattle.listing.specs.Text.{textOf}
-use Rattle.listing.specs.Passes.{Written}
 
 pub text-append : (a b : List ℕ) → textOf (a ++ b) ≡ textOf a ++ textOf b
 text-append [] b = refl
@@ -33,38 +32,25 @@ size-within ws i =
 
 module _ (ws : List ℕ) (i : ℕ) where
   -- one word more
-  pub text-more : i < length ws → textOf (take (i + 1) ws) ≡ textOf (take i ws) ++ lineOf (getD ws i 0)
+  pub text-more : i < length ws → textOf (take (i + 1) ws) ≡ textOf (take i ws) ++ textLine (getD ws i 0)
   text-more h = rw (add-one, take-suc ws i 0, text-append, append-nil)
 
-  pub size-more : i < length ws → length (textOf (take (i + 1) ws)) ≡ length (textOf (take i ws)) + length (lineOf (getD ws i 0))
+  pub size-more : i < length ws → length (textOf (take (i + 1) ws)) ≡ length (textOf (take i ws)) + length (textLine (getD ws i 0))
   size-more h = rw (text-more h, length-append)
 
   -- the room ends within a word's line, or is enough for all
-  pub no-room : (room : ℕ) → i < length ws → room < length (textOf (take i ws)) + length (lineOf (getD ws i 0)) → false ≡ leb (length (textOf ws)) room
+  pub no-room : (room : ℕ) → i < length ws → room < length (textOf (take i ws)) + length (textLine (getD ws i 0)) → false ≡ leb (length (textOf ws)) room
   no-room room h l = sym (lt-leb (length (textOf ws)) room (omega (arith, size-more h, size-within ws (i + 1))))
 
   pub room-for-all : (room : ℕ) → length ws ≤ i → length (textOf (take i ws)) ≤ room → true ≡ leb (length (textOf ws)) room
   room-for-all room h l = sym (le-leb (length (textOf ws)) room (rw (take-all i ws h) at l))
 
--- a line that fits is put
-pub put-fits :
-    {before after : List ℕ} {at w next : ℕ} → Put before at w after next → at + length (lineOf w) ≤ length before →
-    (next ≡ at + length (lineOf w)) × (after ≡ sets before at (lineOf w))
-put-fits {before} {after} {at} {w} p h =
-    let e = le-leb (at + length (lineOf w)) (length before) h in
-    (p .place ∙ simp e, p .stored ∙ simp e)
-
 -- the text of the first words is written; then that of one more
 pub written-more :
-    (ws : List ℕ) (i : ℕ) {l out after : List ℕ} {at next : ℕ} → Written (take i ws) l out at → i < length ws → length (textOf ws) ≤ length out →
-    Put out at (getD ws i 0) after next → Written (take (i + 1) ws) l after next
-written-more ws i {l} {out} {after} {at} {next} k h room p =
-    let q = put-fits p (omega (arith, k .sized, size-more ws i h, size-within ws (i + 1))) in
-    let z : 0 + length (textOf (take i ws)) ≡ at = zero-add _ ∙ sym (k .sized) in
-    record {
-      sized = omega (arith, k .sized, q .0, size-more ws i h);
-      buffer = q .1 ∙ rw (k .buffer, text-more ws i h, ← sets-append, z);
-    }
+    (ws : List ℕ) (i : ℕ) {l out after : List ℕ} {at next : ℕ} → Puts l 0 (textOf (take i ws)) out at → i < length ws → length (textOf ws) ≤ length out →
+    PutsIfRoom out at (textLine (getD ws i 0)) after next → Puts l 0 (textOf (take (i + 1) ws)) after next
+written-more ws i k h room p =
+    rw (text-more ws i h) (then-put k (had-room p (omega (arith, k .place, size-more ws i h, size-within ws (i + 1)))))
 
-pub written-all : (ws : List ℕ) (i : ℕ) {l out : List ℕ} {at : ℕ} → Written (take i ws) l out at → length ws ≤ i → Written ws l out at
+pub written-all : (ws : List ℕ) (i : ℕ) {l out : List ℕ} {at : ℕ} → Puts l 0 (textOf (take i ws)) out at → length ws ≤ i → Puts l 0 (textOf ws) out at
 written-all ws i k h = rw (take-all i ws h) at k

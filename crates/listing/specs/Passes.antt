@@ -5,12 +5,7 @@ use mathlib.Core.List.{List, [], _∷_}
 use Prim.Native.Nat.{ℕ, _≤_}
 use lib.ListN.{length}
 use lib.Seq.{sets}
-use Rattle.listing.specs.Text.{textOf, Parsed}
-
--- the text of the words is written from the front, and this is its size
-pub record Written (words before after : List ℕ) (size : ℕ) : Type 0 where
-  pub sized : size ≡ length (textOf words)
-  pub buffer : after ≡ sets before 0 (textOf words)
+use Rattle.listing.specs.Text.{Parsed}
 
 -- whether a list is empty
 abbrev pub none : List ℕ → Bool

@@ -5,8 +5,8 @@ use Prim.Native.Nat.{ℕ}
 use lib.Dec.{leb}
 use lib.ListN.{length}
 use lib.Seq.{sets}
-use Rattle.words.specs.Choice.{if}
-use Rattle.words.specs.Answers.{done, tooSmall, served}
+use Rattle.common.specs.Choice.{if}
+use Rattle.common.specs.Answers.{done, tooSmall, served}
 use Rattle.listing.specs.Text.{textOf}
 
 -- refused exactly if the text is longer than the buffer

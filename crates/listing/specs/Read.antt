@@ -2,11 +2,11 @@
 use mathlib.Core.Path.{_≡_}
 use mathlib.Core.List.{List, [], _∷_}
 use Prim.Native.Nat.{ℕ, _+_}
-use lib.Dec.{eqb, leb}
+use lib.Dec.{leb}
 use lib.ListN.{length}
 use lib.Seq.{sets}
-use Rattle.words.specs.Choice.{if}
-use Rattle.words.specs.Answers.{done, notListing, tooSmall, served}
+use Rattle.common.specs.Choice.{if}
+use Rattle.common.specs.Answers.{done, notListing, tooSmall, served}
 use Rattle.listing.specs.Text.{Parsed}
 
 -- a text with something left that is no word's line is refused first; then words that the buffer has no room for

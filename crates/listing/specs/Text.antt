@@ -3,13 +3,13 @@ use mathlib.Core.Path.{_≡_}
 use mathlib.Core.List.{List, [], _∷_, _++_}
 use Prim.Native.Nat.{ℕ, _<_}
 use lib.Dec.{eqb}
-use Rattle.words.specs.Choice.{if}
-use Rattle.line.specs.Line.{lineOf, lf}
+use Rattle.common.specs.Choice.{if}
+use Rattle.mnemonic.specs.Mnemonic.{textLine, lf}
 
 -- the lines of the words, one after another
 abbrev pub textOf : List ℕ → List ℕ
 textOf [] = []
-textOf (w ∷ ws) = lineOf w ++ textOf ws
+textOf (w ∷ ws) = textLine w ++ textOf ws
 
 -- each is a word of 16 bits
 abbrev pub Words : List ℕ → Type 0
@@ -24,7 +24,7 @@ firstLine (x ∷ xs) = if (eqb x lf) (x ∷ []) (x ∷ firstLine xs)
 -- a text begins with no word's line: its first line, of which the empty text has none, is no word's (laws first-line-bad and
 -- bad-first-line)
 abbrev pub NoLine : List ℕ → Type 0
-NoLine rest = (w : ℕ) (more : List ℕ) → w < 65536 → rest ≡ lineOf w ++ more → ⊥
+NoLine rest = (w : ℕ) (more : List ℕ) → w < 65536 → rest ≡ textLine w ++ more → ⊥
 
 -- a text is the lines of some words, then what begins with no word's line. For every text there is one such list of words
 -- and one such rest (laws parses and parsed-once)

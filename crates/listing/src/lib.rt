@@ -1,19 +1,19 @@
 // A list of words printed as text, and such a text read back.
-use line::begins_with_line;
-use line::guess;
-use line::put_line;
-use line::width;
-use words::answer::DONE;
-use words::answer::NOT_LISTING;
-use words::answer::TOO_SMALL;
+use common::answer::DONE;
+use common::answer::NOT_LISTING;
+use common::answer::TOO_SMALL;
+use compare::begins_with_line;
+use guess::guess;
+use mnemonic::put_line;
+use mnemonic::width;
 ghost use mathlib.Core.Path.{_≡_};
 ghost use Prim.Native.Nat.{_≤_};
 ghost use lib.Dec.{leb};
 ghost use lib.ListN.{length};
+ghost use Rattle.common.specs.Storing.{Puts};
 ghost use Rattle.listing.specs.Text.{textOf};
-ghost use Rattle.listing.specs.Print.{Printing};
-ghost use Rattle.listing.specs.Read.{Reading};
-ghost use Rattle.listing.specs.Passes.{Written, Checked, Listed, Stored};
+ghost use Rattle.listing.specs.Contract.{PrintsWords, ReadsText};
+ghost use Rattle.listing.specs.Passes.{Checked, Listed, Stored};
 
 // What printing gives: the answer and the bytes written.
 #[repr(C)]
@@ -24,7 +24,7 @@ pub struct Printed {
 
 // Prints words into a buffer for text.
 pub fn print(words: &[u16], text: &mut [u8]) -> Printed
-    ensures { λ r. ⌜ Printing (now (words .entry)) (now (text .entry)) (now (text .exit)) (r .answer) (r .size) ⌝ }
+    ensures { λ r. ⌜ PrintsWords (now (words .entry)) (now (text .entry)) (now (text .exit)) (r .answer) (r .size) ⌝ }
 {
     if !fits(words, text.len()) {
         return Printed {
@@ -56,7 +56,7 @@ fn fits(words: &[u16], room: usize) -> bool
 // Writes the text of words, which has room, and gives its size.
 fn written(words: &[u16], text: &mut [u8]) -> usize
     requires { ⌜ length (textOf (now words)) ≤ length (now text) ⌝ }
-    ensures { λ r. ⌜ Written (now (words .entry)) (now (text .entry)) (now (text .exit)) r ⌝ }
+    ensures { λ r. ⌜ Puts (now (text .entry)) 0 (textOf (now (words .entry))) (now (text .exit)) r ⌝ }
 {
     let mut at = 0;
     let mut i = 0;
@@ -77,7 +77,7 @@ pub struct ReadBack {
 
 // Reads a text into a buffer for words.
 pub fn read(text: &[u8], words: &mut [u16]) -> ReadBack
-    ensures { λ r. ⌜ Reading (now (text .entry)) (now (words .entry)) (now (words .exit)) (r .answer) (r .count) (r .line) ⌝ }
+    ensures { λ r. ⌜ ReadsText (now (text .entry)) (now (words .entry)) (now (words .exit)) (r .answer) (r .count) (r .line) ⌝ }
 {
     let lines = checked(text);
     let count = lines.count;

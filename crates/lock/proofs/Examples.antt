@@ -1,6 +1,6 @@
 -- Histories in the order of writing, and whether the chip is unlocked after each.
 use mathlib.Core.Path.{_≡_, refl}
-use mathlib.Core.Bool.{Bool, true, false}
+use mathlib.Core.Bool.{true, false}
 use mathlib.Core.List.{List, [], _∷_, _++_, map, reverse}
 use Prim.Native.Nat.{ℕ}
 use Rattle.lock.specs.History.{unlockedBy}

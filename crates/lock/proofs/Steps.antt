@@ -9,27 +9,16 @@ use native.Mathlib.Nat.{le-of-suc-le-suc, not-suc-le-zero}
 use lib.Dec.{eqb, leb, ltb}
 use lib.ListN.{getD, length}
 use borrow.Author.Tests.{eqb-true, eqb-false, leb-true, ltb-true, not-true, eq-eqb, ne-eqb, le-leb, lt-ltb}
-use Rattle.words.specs.Choice.{if, both}
+use Rattle.common.specs.Choice.{if, both}
+use Rattle.common.proofs.Tests.{both-true, and-true, and-false}
 use Rattle.lock.specs.declared.Lock.{Lock}
 use Rattle.lock.specs.History.{Place, zeroByte, nonZero, exactly, meetsAll, endsAs, unlocking, locking, unlockedBy}
 use Rattle.lock.specs.Machine.{key, goesOn, afterZero, begins, nextStage, fed, resetLock, after, Tracks, Fresh, Fed}
 
 -- two tests joined
-halves : (a b : Bool) → both a b ≡ true → (a ≡ true) × (b ≡ true)
-halves true b e = (refl, e)
-halves false b e = (e, cc)
-
-both-false : (a : Bool) → both a false ≡ false
-both-false true = refl
-both-false false = refl
-
-both-true : (a : Bool) → both a true ≡ a
-both-true true = refl
-both-true false = refl
-
 both-comm : (a b : Bool) → both a b ≡ both b a
-both-comm true b = sym (both-true b)
-both-comm false b = sym (both-false b)
+both-comm true b = sym (and-true b)
+both-comm false b = sym (and-false b)
 
 -- no byte of a list is zero
 abbrev noZero : List ℕ → Bool
@@ -38,9 +27,9 @@ noZero (x ∷ xs) = both (not (eqb x 0)) (noZero xs)
 
 getD-noZero : (xs : List ℕ) → noZero xs ≡ true → (n : ℕ) → n < length xs → eqb (getD xs n 0) 0 ≡ false
 getD-noZero [] e n h = absurd (not-suc-le-zero h)
-getD-noZero (x ∷ xs) e zero h = not-true (eqb x 0) (halves (not (eqb x 0)) (noZero xs) e .0)
+getD-noZero (x ∷ xs) e zero h = not-true (eqb x 0) (both-true (not (eqb x 0)) (noZero xs) e .0)
 getD-noZero (x ∷ xs) e (suc n) h =
-    getD-noZero xs (halves (not (eqb x 0)) (noZero xs) e .1) n (le-of-suc-le-suc h)
+    getD-noZero xs (both-true (not (eqb x 0)) (noZero xs) e .1) n (le-of-suc-le-suc h)
 
 -- the next stage: one more by the byte waited for, which isn't zero, or as the next attempt begins
 data Next (s b : ℕ) : ℕ → Type 0 where
@@ -53,8 +42,8 @@ next s b = go (goesOn s b) refl
   where
     go : (g : Bool) → goesOn s b ≡ g → Next s b (if g (s + 1) (begins s b))
     go true e =
-        let (range, byte) = halves (both (leb 2 s) (ltb s 16)) (eqb b (getD key (s - 2) 0)) e in
-        let (low, high) = halves (leb 2 s) (ltb s 16) range in
+        let (range, byte) = both-true (both (leb 2 s) (ltb s 16)) (eqb b (getD key (s - 2) 0)) e in
+        let (low, high) = both-true (leb 2 s) (ltb s 16) range in
         let inside : s - 2 < 14 = omega (arith, ltb-true s 16 high) in
         further (leb-true 2 s low) byte
         (rw (eqb-true b (getD key (s - 2) 0) byte) (getD-noZero key refl (s - 2) inside))
@@ -100,7 +89,7 @@ onwards n h {s} {b} (further low byte full) = go (eqb s (suc (suc n))) refl
         simp (rw place at byte, eq-eqb (s + 1) (suc (suc (suc n))) (omega arith))
     go false e =
         simp (
-          both-false,
+          and-false,
           ne-eqb (s + 1) (suc (suc (suc n)))
               (λ (q : s + 1 ≡ suc (suc (suc n))). eqb-false s (suc (suc n)) e (omega arith)),
         )
@@ -110,8 +99,8 @@ onwards n h {s} {b} (anew e) =
   where
     go : (g : Bool) → eqb s (suc (suc n)) ≡ g → both (eqb b (getD key n 0)) g ≡ false
     go true same =
-        both-true (eqb b (getD key n 0)) ∙ sym (goes n h b) ∙ rw (eqb-true s (suc (suc n)) same) at e
-    go false other = both-false (eqb b (getD key n 0))
+        and-true (eqb b (getD key n 0)) ∙ sym (goes n h b) ∙ rw (eqb-true s (suc (suc n)) same) at e
+    go false other = and-false (eqb b (getD key n 0))
 
 -- one byte that isn't zero, one zero, and the first n of the sequence; newest first, as a history
 abbrev pub upTo : ℕ → List Place
@@ -121,7 +110,7 @@ upTo (suc n) = exactly (getD key n 0) ∷ upTo n
 full-last : (h : List ℕ) → meetsAll (nonZero ∷ []) h ≡ not (afterZero (after h .stage))
 unfolding after fed
 full-last [] = refl
-full-last (b ∷ h) = both-true (not (eqb b 0)) ∙ ap not (sym (zero-last (next (after h .stage) b)))
+full-last (b ∷ h) = and-true (not (eqb b 0)) ∙ ap not (sym (zero-last (next (after h .stage) b)))
 
 -- the stage counts the bytes of the sequence that a history ends in
 pub counts : (n : ℕ) → n ≤ 14 → (h : List ℕ) → meetsAll (upTo n) h ≡ eqb (after h .stage) (suc (suc n))

@@ -5,7 +5,7 @@ use mathlib.Core.List.{List, [], _∷_}
 use Prim.Native.Nat.{ℕ, _+_, _-_}
 use lib.Dec.{eqb, leb, ltb}
 use lib.ListN.{getD}
-use Rattle.words.specs.Choice.{if, both, either}
+use Rattle.common.specs.Choice.{if, both, either}
 use Rattle.lock.specs.declared.Lock.{Lock}
 use Rattle.lock.specs.History.{unlockedBy}
 

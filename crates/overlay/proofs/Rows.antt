@@ -9,7 +9,7 @@ use lib.Dec.{ltb}
 use lib.IntN.{ℤ, pos, negsuc, natAbs, _-ℤ_}
 use lib.Signed.{ltZ}
 use lib.ListN.{getD}
-use Rattle.words.specs.Choice.{if}
+use Rattle.common.specs.Choice.{if}
 use Rattle.picture.specs.declared.sprite.Sprite.{Sprite}
 use Rattle.picture.specs.SpriteLine.{scaleOf, yScale, xScale, cellAt, pixelAt}
 use Rattle.overlay.specs.Overlay.{Magnification, divided, Cell, OnLine, pixelOn, Sized}

@@ -9,13 +9,13 @@ use borrow.Author.Tests.{ne-eqb}
 use lib.Dec.{eqb, eqb·suc-zero}
 use lib.ListN.{length, getD, set}
 use lib.Seq.{getD-set-same, getD-set-other}
-use Rattle.words.specs.Choice.{if}
+use Rattle.common.specs.Choice.{if}
 use Rattle.picture.specs.Sprites.{offSprite}
 use Rattle.picture.specs.SpriteLine.{pixelAt}
 use Rattle.picture.specs.declared.sprite.Sprite.{Sprite}
 use Rattle.overlay.specs.declared.LineSprite.{LineSprite}
 use Rattle.overlay.specs.Overlay.{firstOf, firstPixel, pixelOn, firstOn, noLineSprite, Sized}
-use Rattle.words.proofs.Order.{either-side}
+use Rattle.common.proofs.Order.{either-side}
 
 -- the first of so many depends on those alone
 first-same : (f g : ℕ → ℕ) (n : ℕ) → ((k : ℕ) → k < n → f k ≡ g k) → firstOf f n ≡ firstOf g n

@@ -6,7 +6,7 @@ use Prim.Native.Nat.{ℕ, zero, suc, _+_, _/_, _%_, _<_, _≤_}
 use lib.Dec.{eqb}
 use lib.IntN.{ℤ, pos, _-ℤ_}
 use lib.ListN.{getD}
-use Rattle.words.specs.Choice.{if}
+use Rattle.common.specs.Choice.{if}
 use Rattle.picture.specs.Sprites.{offSprite}
 use Rattle.picture.specs.SpriteLine.{xScale, yScale, cellAt, pixelAt}
 use Rattle.picture.specs.declared.sprite.Sprite.{Sprite}

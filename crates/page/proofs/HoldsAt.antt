@@ -5,14 +5,13 @@ use Prim.Native.Nat.{ℕ, suc, _/_, _%_, _-_, _<_}
 use native.Mathlib.Omega.{arith}
 use borrow.Author.Tests.{ltb-true, ltb-false, leb-false}
 use lib.Dec.{eqb, leb, ltb}
-use Rattle.words.specs.Answers.{done}
-use Rattle.words.specs.Choice.{if}
+use Rattle.common.specs.Answers.{done}
+use Rattle.common.specs.Choice.{if}
 use Rattle.registers.specs.declared.address.Register.{Register}
-use Rattle.registers.specs.declared.address.Register.the-variants.{Pixel, Sprite, Palette, Video, Ivr, Converter, Channel, Dcsr, Status, Empty}
 use Rattle.registers.specs.Address.{registerAt, spriteAt, videoAt, channelAt}
 use Rattle.registers.specs.Registers.{registerAnswer}
 use Rattle.contents.specs.Contents.{Holds}
-use Rattle.page.specs.Record.{isKept}
+use Rattle.page.specs.UndoRecord.{isKept}
 
 -- a register that stands at an address and is kept holds contents
 abbrev Fine : Register → Type 0

@@ -1,25 +1,23 @@
 -- 02, L5: undo puts contents back and touches nothing else; a kept write that is undone at once leaves chip and store as they were.
-use mathlib.Core.Path.{_≡_, refl, ap, sym, _∙_}
+use mathlib.Core.Path.{_≡_, refl, ap}
 use mathlib.Core.Bool.{Bool, true, false}
-use mathlib.Core.List.{List, _∷_}
+use mathlib.Core.List.{List}
 use Prim.Native.Nat.{ℕ, _+_, _*_, _/_, _%_, _<_}
 use native.Mathlib.Omega.{arith}
 use lib.Dec.{eqb, leb, ltb}
-use lib.ListN.{length, take}
-use Rattle.words.specs.Answers.{done}
-use Rattle.words.specs.Choice.{if, both}
+use Rattle.common.specs.Answers.{done}
+use Rattle.common.specs.Choice.{if, both}
 use Rattle.ring.specs.declared.Undo.{Undo}
-use Rattle.ring.specs.Ring.{recordOf, head, popped}
 use Rattle.chip.specs.declared.Chip.{Chip}
 use Rattle.chip.specs.State.{withUndo}
 use Rattle.registers.specs.declared.address.Register.{Register}
 use Rattle.registers.specs.declared.address.Register.the-variants.{Pixel, Sprite, Palette, Video, Ivr, Converter, Channel, Dcsr, Status, Empty}
 use Rattle.registers.specs.Address.{registerAt}
-use Rattle.registers.specs.Registers.{registerAnswer, registerWritten, storePut, storeWritten}
-use Rattle.contents.specs.Contents.{contents, Holds}
+use Rattle.registers.specs.Registers.{registerAnswer, registerWritten, storeWritten}
+use Rattle.contents.specs.Contents.{contents}
 use Rattle.contents.specs.Widths.{Widths}
 use Rattle.contents.proofs.Back.{chip-back, store-back}
-use Rattle.page.specs.Record.{isKept, entryWith, entryRegister, entryContents, entryAt}
+use Rattle.page.specs.UndoRecord.{isKept, entryWith, entryRegister, entryContents, entryAt}
 use Rattle.page.specs.Page.{pageAnswer, writeAnswer, pageWritten}
 use Rattle.page.specs.Undo.{undone, storeUndone}
 use Rattle.page.proofs.HoldsAt.{holds-at}

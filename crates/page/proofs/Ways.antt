@@ -10,8 +10,8 @@ use borrow.Author.Tests.{ne-eqb, eqb-true}
 use lib.Dec.{eqb}
 use lib.ListN.{length, getD, set, take}
 use lib.Seq.{set-getD}
-use Rattle.words.specs.Answers.{served}
-use Rattle.words.specs.Choice.{if}
+use Rattle.common.specs.Answers.{served}
+use Rattle.common.specs.Choice.{if}
 use Rattle.ring.specs.declared.Undo.{Undo}
 use Rattle.ring.specs.Ring.{recordOf, pushed, Puts, popped, tail}
 use Rattle.ring.proofs.Laws.{puts, pop-record}
@@ -24,13 +24,13 @@ use Rattle.registers.specs.Address.{registerAt}
 use Rattle.registers.specs.Registers.{registerWritten, storePut, storeWritten}
 use Rattle.registers.proofs.address.Register.{the-type}
 use Rattle.contents.specs.Contents.{contents}
-use Rattle.page.specs.Record.{isKept, entryRegister, entryContents, entryAt}
+use Rattle.page.specs.UndoRecord.{isKept, entryRegister, entryContents, entryAt}
 use Rattle.page.specs.Page.{writeAnswer, pageWritten, placesAfter, recordAfter, Writes}
 use Rattle.page.specs.Undo.{undoAnswer, newest, undone, storeUndone, Undoes}
 use Rattle.page.specs.declared.Edit.{Edit}
 use Rattle.page.specs.declared.Edit.the-variants.{Write, Back}
 use Rattle.page.specs.declared.Change.{Change}
-use Rattle.page.specs.Parts.{refusal, Keeps, Changes, Edits}
+use Rattle.page.specs.Parts.{refusal, KeepsEntry, Changes, Edits}
 
 module _ (c : Chip) (store : List ℕ) (place : ℕ) where
   -- the ways out of a write's change
@@ -43,7 +43,7 @@ module _ (c : Chip) (store : List ℕ) (place : ℕ) where
 
   pub write-served :
       (a b : ℕ) {n v : ℕ} {x : Register} {u : Undo} {place' : ℕ} → n ≡ writeAnswer c (length store) a → n ≡ 0 → x ≡ registerAt a →
-      v ≡ contents c store x → v < 256 → Keeps (c .editing .undo) x place (a * 256 + v) place' u →
+      v ≡ contents c store x → v < 256 → KeepsEntry (c .editing .undo) x place (a * 256 + v) place' u →
       Changes c store place (Write a b) place' (record { answer = n; register = x; byte = b; pixel = b % 16; undo = u })
   write-served a b {v = v} {x = x} e z r is small k =
       let t = sym e ∙ z in
@@ -163,7 +163,7 @@ is-kept Empty h = refl
 
 pub keeps-one :
     (u : Undo) (x : Register) (place entry : ℕ) {r : Undo} → OneOf others (tagOf the-type x) → r ≡ pushed u →
-    Keeps u x place entry entry r
+    KeepsEntry u x place entry entry r
 keeps-one u x place entry h is = let t = is-kept x h in record { undo = is ∙ simp t; place-after = simp t }
 
 -- what the two promise can be had on every chip, whatever is lent, with 256 places

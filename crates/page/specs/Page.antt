@@ -4,8 +4,9 @@ use mathlib.Core.List.{List, _∷_}
 use Prim.Native.Nat.{ℕ, _%_}
 use lib.Dec.{eqb, leb, ltb}
 use lib.ListN.{length, set, take}
-use Rattle.words.specs.Answers.{done, wrongLength, notMapped, served}
-use Rattle.words.specs.Choice.{if, both}
+use Rattle.common.specs.Answers.{done, wrongLength, notMapped, served}
+use Rattle.common.specs.Choice.{if, both}
+use Rattle.common.specs.Sizes.{storeBytes}
 use Rattle.chip.specs.declared.Chip.{Chip}
 use Rattle.chip.specs.declared.Answered.{Answered}
 use Rattle.chip.specs.Contracts.{Answers}
@@ -14,12 +15,12 @@ use Rattle.registers.specs.declared.address.Register.{Register}
 use Rattle.registers.specs.Address.{registerAt}
 use Rattle.registers.specs.Registers.{registerAnswer, registerWritten, storeWritten, registerRead}
 use Rattle.page.specs.declared.ByteRead.{ByteRead}
-use Rattle.page.specs.Record.{isKept, entryAt, recordIn, undoAfter}
+use Rattle.page.specs.UndoRecord.{isKept, entryAt, recordIn, undoAfter}
 
 -- the pixel store has 4,096 bytes; the page is 4000h to 7FFFh, while mapped. The rest is as given
 unfoldable pub pageAnswer : Chip → ℕ → ℕ → ℕ → ℕ
 pageAnswer c size a rest =
-    if (eqb size 4096) (if (both (both (leb 0x4000 a) (ltb a 0x8000)) (c .gate .mapped)) rest notMapped) wrongLength
+    if (eqb size storeBytes) (if (both (both (leb 0x4000 a) (ltb a 0x8000)) (c .gate .mapped)) rest notMapped) wrongLength
 
 unfoldable pub readAnswer : Chip → ℕ → ℕ → ℕ
 readAnswer c size a = pageAnswer c size a done
@@ -50,8 +51,7 @@ pub record Writes (c : Chip) (store places : List ℕ) (a b : ℕ) (store' place
       recordIn (r .chip) places'
       ≡ served (writeAnswer c (length store) a) (recordAfter c store places a) (recordIn c places)
 
--- what a page read promises
+-- what a page read promises, which changes nothing
 pub record Reads (c : Chip) (store : List ℕ) (a bus : ℕ) (r : ByteRead) : Type 0 where
   pub answer : r .answer ≡ readAnswer c (length store) a
-  pub chip : r .chip ≡ c
   pub byte : r .byte ≡ served (readAnswer c (length store) a) (registerRead c store (registerAt a) bus) 0

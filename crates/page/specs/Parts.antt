@@ -4,8 +4,9 @@ use mathlib.Core.List.{List}
 use Prim.Native.Nat.{ℕ, _%_}
 use lib.Dec.{eqb}
 use lib.ListN.{length}
-use Rattle.words.specs.Answers.{done, wrongLength, nothingToUndo, served}
-use Rattle.words.specs.Choice.{if}
+use Rattle.common.specs.Answers.{done, wrongLength, nothingToUndo, served}
+use Rattle.common.specs.Choice.{if}
+use Rattle.common.specs.Sizes.{storeBytes}
 use Rattle.ring.specs.declared.Undo.{Undo}
 use Rattle.ring.specs.Ring.{popped}
 use Rattle.chip.specs.declared.Chip.{Chip}
@@ -18,11 +19,11 @@ use Rattle.registers.specs.Registers.{registerWritten, storePut}
 use Rattle.page.specs.declared.Edit.{Edit}
 use Rattle.page.specs.declared.Edit.the-variants.{Write, Back}
 use Rattle.page.specs.declared.Change.{Change}
-use Rattle.page.specs.Record.{isKept, entryAt, entryRegister, entryContents, undoAfter}
+use Rattle.page.specs.UndoRecord.{isKept, entryAt, entryRegister, entryContents, undoAfter}
 use Rattle.page.specs.Page.{writeAnswer}
 
 -- an entry kept at a place, or not
-pub record Keeps (u : Undo) (x : Register) (place entry place' : ℕ) (r : Undo) : Type 0 where
+pub record KeepsEntry (u : Undo) (x : Register) (place entry place' : ℕ) (r : Undo) : Type 0 where
   pub undo : r ≡ undoAfter u x
   pub place-after : place' ≡ if (isKept x) entry place
 
@@ -41,7 +42,7 @@ undoChange u e =
 -- undo, by the size of the store and whether an entry is left
 abbrev pub backChange : Undo → ℕ → ℕ → Change
 backChange u size e =
-    if (eqb size 4096) (if (eqb (u .count) 0) (refusal u nothingToUndo) (undoChange u e)) (refusal u wrongLength)
+    if (eqb size storeBytes) (if (eqb (u .count) 0) (refusal u nothingToUndo) (undoChange u e)) (refusal u wrongLength)
 
 -- what an edit changes, with what stands at the record's place
 abbrev pub changeOf : Chip → List ℕ → ℕ → Edit → Change

@@ -4,19 +4,20 @@ use mathlib.Core.List.{List}
 use Prim.Native.Nat.{ℕ}
 use lib.Dec.{eqb}
 use lib.ListN.{length}
-use Rattle.words.specs.Answers.{done, wrongLength, nothingToUndo, served}
-use Rattle.words.specs.Choice.{if}
+use Rattle.common.specs.Answers.{done, wrongLength, nothingToUndo, served}
+use Rattle.common.specs.Choice.{if}
+use Rattle.common.specs.Sizes.{storeBytes}
 use Rattle.ring.specs.Ring.{popped, head, tail}
 use Rattle.chip.specs.declared.Chip.{Chip}
 use Rattle.chip.specs.declared.Answered.{Answered}
 use Rattle.chip.specs.Contracts.{Answers}
 use Rattle.chip.specs.State.{withUndo}
 use Rattle.registers.specs.Registers.{registerWritten, storePut}
-use Rattle.page.specs.Record.{entryRegister, entryContents, recordIn}
+use Rattle.page.specs.UndoRecord.{entryRegister, entryContents, recordIn}
 
 -- a store of another length, then an empty record; whether the page is mapped or the chip locked doesn't matter
 unfoldable pub undoAnswer : Chip → ℕ → ℕ
-undoAnswer c size = if (eqb size 4096) (if (eqb (c .editing .undo .count) 0) nothingToUndo done) wrongLength
+undoAnswer c size = if (eqb size storeBytes) (if (eqb (c .editing .undo .count) 0) nothingToUndo done) wrongLength
 
 -- the newest entry
 abbrev pub newest : Chip → List ℕ → ℕ

@@ -2,23 +2,23 @@
 use chip::Answered;
 use chip::Chip;
 use chip::Editing;
+use common::answer::DONE;
+use common::answer::NOT_MAPPED;
+use common::answer::NOTHING_TO_UNDO;
+use common::answer::WRONG_LENGTH;
+use common::size::STORE;
 use registers::address::Register;
 use ring::Undo;
-use words::answer::DONE;
-use words::answer::NOT_MAPPED;
-use words::answer::NOTHING_TO_UNDO;
-use words::answer::WRONG_LENGTH;
 ghost use mathlib.Core.Path.{_≡_};
 ghost use Rattle.registers.specs.Registers.{registerAnswer};
 ghost use Rattle.page.specs.Page.{pageAnswer, readAnswer, Writes, Reads};
 ghost use Rattle.page.specs.Undo.{Undoes};
 ghost use Rattle.page.specs.declared.Edit.the-variants.{Write};
-ghost use Rattle.page.specs.Parts.{refusal, backChange, Keeps, Changes, Edits};
+ghost use Rattle.page.specs.Parts.{refusal, backChange, KeepsEntry, Changes, Edits};
 
-// A page read's answer: the chip, the number, the byte.
+// A page read's answer: the number and the byte. It changes nothing.
 #[repr(C)]
 pub struct ByteRead {
-    pub chip: Chip,
     pub answer: u8,
     pub byte: u8,
 }
@@ -43,7 +43,7 @@ struct Change {
 fn read_answer(chip: Chip, size: usize, address: u16) -> u8
     ensures { λ r. ⌜ r ≡ readAnswer chip size address ⌝ }
 {
-    if size != 4096 {
+    if size != STORE {
         return WRONG_LENGTH;
     }
     if address < 0x4000 {
@@ -71,7 +71,7 @@ fn write_answer(chip: Chip, size: usize, address: u16, register: Register) -> u8
 
 // The state of the record after a served write to this register, whose entry is given; one to DCSR is not kept.
 fn kept(undo: Undo, register: Register, place: &mut u32, entry: u32) -> Undo
-    ensures { λ r. ⌜ Keeps undo register (now (place .entry)) entry (now (place .exit)) r ⌝ }
+    ensures { λ r. ⌜ KeepsEntry undo register (now (place .entry)) entry (now (place .exit)) r ⌝ }
 {
     if let Register::Dcsr = register {
         return undo;
@@ -118,7 +118,7 @@ fn write_change(chip: Chip, store: &[u8], place: &mut u32, address: u16, byte: u
 fn undo_change(undo: Undo, length: usize, entry: u32) -> Change
     ensures { λ r. ⌜ r ≡ backChange undo length entry ⌝ }
 {
-    if length != 4096 {
+    if length != STORE {
         return refusal(undo, WRONG_LENGTH);
     }
     if undo.count == 0 {
@@ -219,15 +219,10 @@ pub fn page_read(chip: Chip, store: &[u8], address: u16, bus: u8) -> ByteRead
 {
     let answer = read_answer(chip, store.len(), address);
     if answer != DONE {
-        return ByteRead {
-            chip,
-            answer,
-            byte: 0,
-        };
+        return ByteRead { answer, byte: 0 };
     }
     let register = registers::address::register_at(address);
     ByteRead {
-        chip,
         answer: DONE,
         byte: registers::reading::register_read(chip, store, register, bus),
     }

@@ -1,7 +1,7 @@
 -- 01, "The register page": the palette.
 use Prim.Native.Nat.{ℕ, _+_, _*_, _/_, _%_}
 use lib.Dec.{eqb}
-use Rattle.words.specs.Choice.{if}
+use Rattle.common.specs.Choice.{if}
 
 -- an entry is two bytes, low then high; of a high byte only the low 4 bits are kept
 unfoldable pub keptByte : ℕ → ℕ → ℕ

@@ -2,7 +2,7 @@
 use mathlib.Core.List.{List, [], _∷_}
 use Prim.Native.Nat.{ℕ, zero, suc, _+_, _-_, _*_, _/_}
 use lib.ListN.{take}
-use Rattle.words.specs.Choice.{bit, ofBool}
+use Rattle.common.specs.Choice.{bit, ofBool}
 
 -- a pen has one bit in mode 2, two in mode 1 and four in mode 0, and is as many positions wide as it has bits
 abbrev pub widthOf : ℕ → ℕ

@@ -4,7 +4,7 @@ use Prim.Native.Nat.{ℕ, zero, suc, _+_, _*_, _/_, _%_}
 use lib.Dec.{ltb}
 use lib.IntN.{ℤ, pos, negsuc, _-ℤ_}
 use lib.ListN.{getD}
-use Rattle.words.specs.Choice.{if}
+use Rattle.common.specs.Choice.{if}
 use Rattle.picture.specs.declared.sprite.Sprite.{Sprite}
 
 -- a magnification's code: off, 1, 2, 4; off is 0 here

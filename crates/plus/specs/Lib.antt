@@ -1,3 +1,6 @@
--- What leaves through the C interface in another form than inside: the line report and the forecast's list.
+-- What leaves through the C interface in another form than inside, the line report and the forecast's list; what undo promises over runs
+-- of calls; and what the library tells of itself.
 pub mod Report
 pub mod Promises
+pub mod Undo
+pub mod Built

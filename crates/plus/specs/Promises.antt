@@ -7,7 +7,7 @@ use Rattle.sound.specs.declared.Accesses.{Accesses}
 use Rattle.sound.specs.declared.Report.{Report}
 use Rattle.sound.specs.Line.{soundReport}
 use Rattle.chip.specs.declared.Chip.{Chip}
-use Rattle.words.specs.Answers.{served}
+use Rattle.common.specs.Answers.{served}
 use Rattle.chip.specs.Step.{stepAnswer, stepped, idleReport}
 use Rattle.forecast.specs.declared.Length.{Length}
 use Rattle.forecast.specs.Contract.{Forecasts}
@@ -38,5 +38,5 @@ toldBy r = record { answer = r .answer; lines = r .lines; cycles = r .cycles; mo
 pub record LengthTold (ram : List ℕ) (start prescale : ℕ) (r : PlusLength) : Type 0 where
   pub told : Forecasts ram start prescale (toldBy r)
   pub offset : r .offset ≡ served (answerOf ram start) (even start) 0
-  pub length : r .length ≡ served (answerOf ram start) (length (listOf ram start)) 0
+  pub size : r .length ≡ served (answerOf ram start) (length (listOf ram start)) 0
   pub list : take (r .length) (drop (r .offset) ram) ≡ served (answerOf ram start) (listOf ram start) []

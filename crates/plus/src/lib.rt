@@ -2,6 +2,7 @@
 use chip::Acknowledged;
 use chip::Answered;
 use chip::Chip;
+use common::answer::DONE;
 use listing::Printed;
 use listing::ReadBack;
 use page::ByteRead;
@@ -11,9 +12,9 @@ use sound::Did;
 use sound::Entry;
 use take::Opened;
 use take::Record;
+use take::RecordRead;
 use take::Written;
 use words::WordKind;
-use words::answer::DONE;
 ghost use mathlib.Core.Path.{_≡_};
 ghost use Rattle.chip.specs.Contracts.{Answers};
 ghost use Rattle.chip.specs.Interrupts.{Acknowledges};
@@ -21,17 +22,17 @@ ghost use Rattle.chip.specs.Ports.{Selects, dataAnswer, dataWritten, gateAnswer
 ghost use Rattle.chip.specs.Reset.{Reset};
 ghost use Rattle.picture.specs.Palette.{greyOf};
 ghost use Rattle.page.specs.Page.{Reads, Writes};
-ghost use Rattle.page.specs.Undo.{Undoes};
 ghost use Rattle.export.specs.Export.{Exports};
 ghost use Rattle.draw.specs.Drawing.{Draws};
-ghost use Rattle.listing.specs.Print.{Printing};
-ghost use Rattle.listing.specs.Read.{Reading};
+ghost use Rattle.listing.specs.Contract.{PrintsWords, ReadsText};
 ghost use Rattle.take.specs.Record.{packed, unpacked};
-ghost use Rattle.take.specs.Write.{Writing};
-ghost use Rattle.take.specs.Open.{Opening, recordAt};
+ghost use Rattle.take.specs.Open.{Opening, ReadsRecord};
+ghost use Rattle.take.specs.Contract.{WritesTake};
 ghost use Rattle.replay.specs.Contract.{Replays};
 ghost use Rattle.plus.specs.Report.{accessesBy, kindNumber, lowOf, kindsOf, lowsOf};
 ghost use Rattle.plus.specs.Promises.{StepReported, LengthTold};
+ghost use Rattle.plus.specs.Undo.{UndoTold};
+ghost use Rattle.plus.specs.Built.{Built};
 
 // A line step's answer, without enums: of each channel the number of what it did, and the low 12 bits of its word.
 #[repr(C)]
@@ -52,6 +53,24 @@ pub struct PlusLength {
     pub most: u64,
     pub offset: u32,
     pub length: u32,
+}
+
+// What the library was built with: its version as one number, and how many bytes a chip's state has in C.
+#[repr(C)]
+pub struct PlusBuilt {
+    pub version: u32,
+    pub state: u32,
+}
+
+// The version, and the bytes of the state.
+#[no_mangle]
+pub extern "C" fn plus_built() -> PlusBuilt
+    ensures { λ r. ⌜ Built r ⌝ }
+{
+    PlusBuilt {
+        version: 900,
+        state: 254,
+    }
 }
 
 // The chip after reset.
@@ -111,7 +130,7 @@ pub extern "C" fn plus_page_write(
 // The newest write that is kept, taken back.
 #[no_mangle]
 pub extern "C" fn plus_undo(chip: Chip, store: &mut [u8], places: &[u32; 256]) -> Answered
-    ensures { λ r. ⌜ Undoes chip (now (store .entry)) (now (places .entry)) (now (store .exit)) r ⌝ }
+    ensures { λ r. ⌜ UndoTold chip (now (store .entry)) (now (places .entry)) (now (store .exit)) r ⌝ }
 {
     page::undo(chip, store, places)
 }
@@ -255,7 +274,7 @@ pub extern "C" fn plus_draw(chip: Chip, ram: &[u8], store: &[u8], line: &mut [u8
 // Prints words as text.
 #[no_mangle]
 pub extern "C" fn plus_print(words: &[u16], text: &mut [u8]) -> Printed
-    ensures { λ r. ⌜ Printing (now (words .entry)) (now (text .entry)) (now (text .exit)) (r .answer) (r .size) ⌝ }
+    ensures { λ r. ⌜ PrintsWords (now (words .entry)) (now (text .entry)) (now (text .exit)) (r .answer) (r .size) ⌝ }
 {
     listing::print(words, text)
 }
@@ -263,7 +282,7 @@ pub extern "C" fn plus_print(words: &[u16], text: &mut [u8]) -> Printed
 // Reads such a text back.
 #[no_mangle]
 pub extern "C" fn plus_read(text: &[u8], words: &mut [u16]) -> ReadBack
-    ensures { λ r. ⌜ Reading (now (text .entry)) (now (words .entry)) (now (words .exit)) (r .answer) (r .count) (r .line) ⌝ }
+    ensures { λ r. ⌜ ReadsText (now (text .entry)) (now (words .entry)) (now (words .exit)) (r .answer) (r .count) (r .line) ⌝ }
 {
     listing::read(text, words)
 }
@@ -287,7 +306,7 @@ pub extern "C" fn plus_take_unpack(number: u64) -> Record
 // Writes a take, its records lent as numbers.
 #[no_mangle]
 pub extern "C" fn plus_take_write(comment: &[u8], records: &[u64], output: &mut [u8]) -> Written
-    ensures { λ r. ⌜ Writing (now (comment .entry)) (now (records .entry)) (now (output .entry)) (now (output .exit)) (r .answer) (r .size) (r .bad) ⌝ }
+    ensures { λ r. ⌜ WritesTake (now (comment .entry)) (now (records .entry)) (now (output .entry)) (now (output .exit)) (r .answer) (r .size) (r .bad) ⌝ }
 {
     take::write(comment, records, output)
 }
@@ -302,8 +321,8 @@ pub extern "C" fn plus_take_open(file: &[u8]) -> Opened
 
 // The record of a take with this number, from 1.
 #[no_mangle]
-pub extern "C" fn plus_take_record(file: &[u8], number: usize) -> Record
-    ensures { λ r. ⌜ r ≡ recordAt (now (file .entry)) number ⌝ }
+pub extern "C" fn plus_take_record(file: &[u8], number: usize) -> RecordRead
+    ensures { λ r. ⌜ ReadsRecord (now (file .entry)) number (r .answer) (r .entry) ⌝ }
 {
     take::record_at(file, number)
 }

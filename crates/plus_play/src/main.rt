@@ -1,6 +1,9 @@
 // Plays a take for each list of the forecast table, steps on to its STOP, and prints the lines and the channel's own cycles.
+use chip::Answered;
 use chip::Chip;
-use libc::STDOUT_FILENO;
+use common::answer::DONE;
+use common::answer::NO_STOP;
+use length_line::Length;
 use sound::Access;
 use sound::Accesses;
 use take::Record;
@@ -13,12 +16,6 @@ const MOST: u64 = 1000;
 struct Row {
     words: [u16; 5],
     prescale: u8,
-}
-
-// The lines stepped, and the channel's own cycles on them.
-struct Length {
-    lines: u64,
-    cycles: u64,
 }
 
 // The rows of the table, from 0.
@@ -115,18 +112,29 @@ fn calls(prescale: u8) -> [u64; 22] {
     ]
 }
 
-// The chip after the take of these calls.
-fn played(ram: &[u8; 65536], prescale: u8) -> Chip {
+// The chip after the take of these calls, or the number with which it is refused.
+fn played(ram: &[u8; 65536], prescale: u8) -> Answered {
     let mut file = [0u8; 196];
     let mut store = [0u8; 4096];
     let mut places = [0u32; 256];
     let records = calls(prescale);
-    take::write(b"forecast", &records, &mut file);
+    let written = take::write(b"forecast", &records, &mut file);
+    if written.answer != DONE {
+        return Answered {
+            chip: chip::start::reset(),
+            answer: written.answer,
+        };
+    }
     let told = replay::replay(ram, &mut store, &mut places, &file);
-    told.chip
+    let chip = told.chip;
+    Answered {
+        chip,
+        answer: told.answer,
+    }
 }
 
-// Lines stepped on to the STOP of channel 0, with the processor off the 8255.
+// Lines stepped on to the STOP of channel 0, with the processor off the 8255, and the channel's own cycles on them. Where no STOP comes
+// the number is that of a list without one.
 fn stepped_on(chip: Chip, ram: &[u8; 65536]) -> Length {
     let mut next = chip;
     let mut lines = 0u64;
@@ -135,7 +143,11 @@ fn stepped_on(chip: Chip, ram: &[u8; 65536]) -> Length {
         let sound = next.sound;
         let channel = sound.channels[0];
         if !channel.enabled {
-            return Length { lines, cycles };
+            return Length {
+                answer: DONE,
+                lines,
+                cycles,
+            };
         }
         let off = Accesses {
             first: Access::Off,
@@ -149,15 +161,25 @@ fn stepped_on(chip: Chip, ram: &[u8; 65536]) -> Length {
         cycles += entry.own_cycles(Access::Off) as u64;
         lines += 1;
     }
-    Length { lines, cycles }
+    refused(NO_STOP)
 }
 
-fn print_length(told: Length) {
-    io::write_all(STDOUT_FILENO, b"lines ");
-    io::print_decimal(STDOUT_FILENO, told.lines);
-    io::write_all(STDOUT_FILENO, b" cycles ");
-    io::print_decimal(STDOUT_FILENO, told.cycles);
-    io::write_all(STDOUT_FILENO, b"\n");
+// A refusal.
+fn refused(answer: u8) -> Length {
+    Length {
+        answer,
+        lines: 0,
+        cycles: 0,
+    }
+}
+
+// What a row of the table comes to.
+fn row_played(ram: &[u8; 65536], prescale: u8) -> Length {
+    let told = played(ram, prescale);
+    if told.answer != DONE {
+        return refused(told.answer);
+    }
+    stepped_on(told.chip, ram)
 }
 
 fn main() {
@@ -166,7 +188,6 @@ fn main() {
         let list = row_of(n);
         let words = list.words;
         put_list(&mut ram, words);
-        let chip = played(&ram, list.prescale);
-        print_length(stepped_on(chip, &ram));
+        length_line::print(row_played(&ram, list.prescale));
     }
 }

@@ -1,2 +1,2 @@
--- Laws of a block of records.
-pub mod Playing
+-- Laws of a block of orders.
+pub mod Serving

@@ -1,14 +1,14 @@
-// Plays calls of the chip from standard input and prints a line for each. The input is RAM, the pixel store, then records of
+// Plays calls of the chip from standard input and prints a line for each. The input is RAM, the pixel store, then orders of
 // four bytes: a letter, the address low and high, a value.
 use calls::Machine;
-use calls::Record;
+use calls::Order;
 use libc::STDIN_FILENO;
 use libc::STDOUT_FILENO;
 use text::lines;
 ghost use mathlib.Core.Path.{_≡_};
 ghost use Prim.Native.Nat.{_+_, _/_, _≤_};
 ghost use lib.ListN.{length};
-ghost use Rattle.plus_run.specs.Blocks.{Takes, Ready, Roomy, Ends, stateOf, after, played};
+ghost use Rattle.plus_run.specs.Blocks.{Takes, Ready, Roomy, Ends, worldBeside, orderServed, ordersServed};
 
 // More than the longest line of output.
 const LONGEST: usize = 1024;
@@ -40,19 +40,19 @@ fn with_room(m: Machine, out: &[u8]) -> Machine
     Machine { chip, at: 0 }
 }
 
-// The record at a place of a block.
-fn record_at(block: &[u8], i: usize) -> Record
+// The order at a place of a block.
+fn order_at(block: &[u8], i: usize) -> Order
     requires { ⌜ i + 4 ≤ length (now block) ⌝ }
     ensures { λ r. ⌜ Takes (now (block .entry)) i r ⌝ }
 {
-    Record {
+    Order {
         op: block[i],
         address: block[i + 2] as u16 * 256 + block[i + 1] as u16,
         value: block[i + 3],
     }
 }
 
-// One record of a block.
+// One order of a block.
 fn turn(
     m: Machine,
     ram: &mut [u8],
@@ -64,14 +64,14 @@ fn turn(
 ) -> Machine
     requires { ⌜ (Ready m (now ram) (now out)) × (i + 4 ≤ length (now block)) ⌝ }
     ensures { λ r. ⌜ Ready r (now (ram .exit)) (now (out .exit)) ⌝ }
-    ensures { λ r. ⌜ stateOf r (now (ram .exit)) (now (store .exit)) (now (places .exit)) ≡ after (stateOf m (now (ram .entry)) (now (store .entry)) (now (places .entry))) (now (block .entry)) i ⌝ }
+    ensures { λ r. ⌜ worldBeside r (now (ram .exit)) (now (store .exit)) (now (places .exit)) ≡ orderServed (worldBeside m (now (ram .entry)) (now (store .entry)) (now (places .entry))) (now (block .entry)) i ⌝ }
 {
     let ready = with_room(m, out);
-    calls::serve(ready, ram, store, places, out, record_at(block, i))
+    calls::serve(ready, ram, store, places, out, order_at(block, i))
 }
 
-// Every whole record of a block.
-fn records(
+// Every whole order of a block.
+fn orders(
     m: Machine,
     ram: &mut [u8],
     store: &mut [u8],
@@ -81,7 +81,7 @@ fn records(
 ) -> Machine
     requires { ⌜ Ready m (now ram) (now out) ⌝ }
     ensures { λ r. ⌜ Ready r (now (ram .exit)) (now (out .exit)) ⌝ }
-    ensures { λ r. ⌜ stateOf r (now (ram .exit)) (now (store .exit)) (now (places .exit)) ≡ played (stateOf m (now (ram .entry)) (now (store .entry)) (now (places .entry))) (now (block .entry)) (length (now (block .entry)) / 4) ⌝ }
+    ensures { λ r. ⌜ worldBeside r (now (ram .exit)) (now (store .exit)) (now (places .exit)) ≡ ordersServed (worldBeside m (now (ram .entry)) (now (store .entry)) (now (places .entry))) (now (block .entry)) (length (now (block .entry)) / 4) ⌝ }
 {
     let whole = block.len() / 4;
     let mut machine = m;
@@ -93,7 +93,7 @@ fn records(
     machine
 }
 
-// The end of the input: a part of a record makes the line `short`.
+// The end of the input: a part of an order makes the line `short`.
 fn last(m: Machine, out: &mut [u8], bytes: usize) -> Machine
     requires { ⌜ (m .at ≤ length (now out)) × (1024 ≤ length (now out)) ⌝ }
     ensures { λ r. ⌜ Ends m (now (out .entry)) bytes (now (out .exit)) r ⌝ }
@@ -107,7 +107,7 @@ fn last(m: Machine, out: &mut [u8], bytes: usize) -> Machine
     Machine { chip, at: next }
 }
 
-// One block of input. A block is filled, so that no record lies across two of them, and one that isn't full is the last.
+// One block of input. A block is filled, so that no order lies across two of them, and one that isn't full is the last.
 fn block_played(
     m: Machine,
     ram: &mut [u8],
@@ -120,7 +120,7 @@ fn block_played(
     ensures { λ r. ⌜ Ready (r .machine) (now (ram .exit)) (now (out .exit)) ⌝ }
 {
     let n = io::read_full(STDIN_FILENO, block);
-    let played = records(m, ram, store, places, out, &block[..n]);
+    let played = orders(m, ram, store, places, out, &block[..n]);
     if n == block.len() {
         return Progress {
             machine: played,
@@ -158,7 +158,7 @@ fn blocks(
     progress.machine
 }
 
-// All records, from the chip after reset.
+// All orders, from the chip after reset.
 fn play(ram: &mut [u8], store: &mut [u8])
     requires { ⌜ length (now ram) ≡ 65536 ⌝ }
 {

@@ -4,9 +4,8 @@ use native.Mathlib.Omega.{arith}
 use mathlib.Core.Path.{_≡_, sym, _∙_}
 use mathlib.Core.List.{List}
 use Prim.Native.Nat.{ℕ, _+_, _<_, _≤_}
-use lib.ListN.{length, take, drop}
-use Rattle.take.specs.Bytes.{numberOf}
-use Rattle.take.specs.Record.{unpacked}
+use lib.ListN.{length, drop}
+use Rattle.take.specs.Record.{recordIn}
 use Rattle.take.specs.Open.{offsetOf, recordFrom, openAnswer, Opening}
 use Rattle.reader.specs.Reader.{foundAt, afterAt, firstPlace}
 use Rattle.reader.specs.declared.Found.the-variants.{One, End}
@@ -22,19 +21,19 @@ module _ (file : List ℕ) (at : ℕ) where
     after-end = simp (lt-ltb (length file) (at + 20) h)
 
   module _ (h : at + 20 ≤ length file) where
-    pub found-one : foundAt file at ≡ One (unpacked (numberOf (take 8 (drop at file))))
+    pub found-here : foundAt file at ≡ One (recordFrom file at)
     unfolding foundAt
-    found-one = simp (le-ltb (length file) (at + 20) h)
+    found-here = simp (le-ltb (length file) (at + 20) h)
 
     pub after-one : afterAt file at ≡ at + 8
     unfolding afterAt
     after-one = simp (le-ltb (length file) (at + 20) h)
 
-    pub whole-record : recordFrom file at ≡ unpacked (numberOf (take 8 (drop at file)))
+    pub found-one : foundAt file at ≡ One (recordIn (drop at file))
     unfolding recordFrom
-    whole-record =
+    found-one =
         let room : at + 8 ≤ length file = omega arith in
-        simp (le-ltb (length file) (at + 8) room)
+        found-here ∙ simp (le-ltb (length file) (at + 8) room)
 
 module _ (file : List ℕ) where
   pub first-in-take : openAnswer file ≡ 0 → firstPlace file ≡ offsetOf file

@@ -23,7 +23,7 @@ pub use types.Run.{pass1, returns, stop}
 pub use sound.WpLaws.{FmC, WpFn-mono, fmOf}
 pub use denote.RattleType.{RattleType, owns}
 pub use denote.Laws.{Is, shows}
-pub use denote.Plain.{uint-makes, uint-tells, uint-vals}
+pub use denote.Plain.{uint-lawful, uint-makes, uint-tells, uint-vals}
 pub use denote.Builtin.{u8, usize}
 pub use denote.Ref.{NamedLft, RefT, now}
 pub use denote.Signature.{namedLft, plain}

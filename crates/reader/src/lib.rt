@@ -1,8 +1,8 @@
 // A reader over a take that is lent: its records, one by one.
+use common::answer::DONE;
 use take::Record;
-use words::answer::DONE;
 ghost use mathlib.Core.Path.{_≡_};
-ghost use Rattle.reader.specs.Reader.{firstPlace, advancedAt, readerAt, handed};
+ghost use Rattle.reader.specs.Reader.{firstPlace, advancedAt, readerAt, handed, ReadsTake};
 
 // What stands at a place of a take: a record, or the end.
 pub enum Found {
@@ -18,8 +18,8 @@ pub struct Advanced {
 
 // A place in a take that is lent.
 pub struct Reader<'a> {
-    pub file: &'a [u8],
-    pub at: usize,
+    file: &'a [u8],
+    at: usize,
 }
 
 // What a reader handed out, and the reader after it.
@@ -29,7 +29,7 @@ pub struct Handed<'a> {
 }
 
 // The place of a take's first record, or the end of a file that does not open.
-pub fn first_place(file: &[u8]) -> usize
+fn first_at(file: &[u8]) -> usize
     ensures { λ r. ⌜ r ≡ firstPlace (now (file .entry)) ⌝ }
 {
     let opened = take::open(file);
@@ -40,7 +40,7 @@ pub fn first_place(file: &[u8]) -> usize
 }
 
 // What stands at a place, and the next place: the work of the reader.
-pub fn advance_at(file: &[u8], at: usize) -> Advanced
+fn advance_at(file: &[u8], at: usize) -> Advanced
     ensures { λ r. ⌜ r ≡ advancedAt (now (file .entry)) at ⌝ }
 {
     let length = file.len();
@@ -65,10 +65,17 @@ pub fn advance_at(file: &[u8], at: usize) -> Advanced
 
 impl<'a> Reader<'a> {
     // A reader at a place.
-    pub fn make(file: &'a [u8], at: usize) -> Reader<'a>
+    fn make(file: &'a [u8], at: usize) -> Reader<'a>
         ensures { λ r. ⌜ r ≡ readerAt (file .entry) at ⌝ }
     {
         Reader { file, at }
+    }
+
+    // A reader over a file: at its first record, or at the end of one that does not open.
+    pub fn over(file: &'a [u8]) -> Reader<'a>
+        ensures { λ r. ⌜ ReadsTake (file .entry) r ⌝ }
+    {
+        Reader::make(file, first_at(file))
     }
 
     // The next record, and the reader after it.
@@ -86,7 +93,15 @@ impl<'a> Reader<'a> {
     }
 }
 
-// The next record and place, through a reader. Its parameters are plain, so that its callers are covered.
+// The place at which a reader over a file stands. Its parameter and its answer are plain, as those of `advance`, so that callers are covered.
+pub fn first_place(file: &[u8]) -> usize
+    ensures { λ r. ⌜ r ≡ firstPlace (now (file .entry)) ⌝ }
+{
+    let r = Reader::over(file);
+    r.at
+}
+
+// The next record and place, through a reader.
 pub fn advance(file: &[u8], at: usize) -> Advanced
     ensures { λ a. ⌜ a ≡ advancedAt (now (file .entry)) at ⌝ }
 {

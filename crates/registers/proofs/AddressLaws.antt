@@ -5,7 +5,7 @@ use Prim.Native.Nat.{ℕ, _+_, _-_, _*_, _%_, _≤_}
 use native.Mathlib.Omega.{arith}
 use borrow.Author.Tests.{ltb-false, eqb-true, le-ltb}
 use lib.Dec.{eqb, leb, ltb}
-use Rattle.words.specs.Choice.{if}
+use Rattle.common.specs.Choice.{if}
 use Rattle.registers.specs.declared.address.ChannelRegister.{ChannelRegister}
 use Rattle.registers.specs.declared.address.ChannelRegister.the-variants.{StartLow, StartHigh, Prescale}
 use Rattle.registers.specs.declared.address.Register.{Register}

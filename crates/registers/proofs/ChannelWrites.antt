@@ -1,12 +1,12 @@
 -- 01, "The register page": what a write does to each sound channel.
 use mathlib.Core.Path.{_≡_, refl, ap, sym}
-use mathlib.Core.Bool.{Bool, true, false}
-use mathlib.Core.List.{List, [], _∷_}
+use mathlib.Core.Bool.{Bool, true}
+use mathlib.Core.List.{List}
 use Prim.Native.Nat.{ℕ, zero, suc, _<_}
 use native.Mathlib.Omega.{arith}
 use lib.Seq.{getD-set-other}
-use Rattle.words.specs.Choice.{bit}
-use Rattle.words.proofs.Lists.{after-set}
+use Rattle.common.specs.Choice.{bit}
+use Rattle.common.proofs.Lists.{after-set}
 use Rattle.sound.specs.declared.Channel.{Channel}
 use Rattle.sound.specs.Line.{offChannel, channelOf}
 use Rattle.chip.specs.declared.Chip.{Chip}

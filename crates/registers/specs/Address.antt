@@ -1,10 +1,8 @@
 -- 01, "The register page": what stands at each address.
 use Prim.Native.Nat.{ℕ, _-_, _/_, _%_}
 use lib.Dec.{eqb, leb, ltb}
-use Rattle.words.specs.Choice.{if}
-use Rattle.registers.specs.declared.address.VideoRegister.{VideoRegister}
+use Rattle.common.specs.Choice.{if}
 use Rattle.registers.specs.declared.address.VideoRegister.the-variants.{Pri, SplitLine, SplitHigh, SplitLow, Sscr}
-use Rattle.registers.specs.declared.address.ChannelRegister.{ChannelRegister}
 use Rattle.registers.specs.declared.address.ChannelRegister.the-variants.{StartLow, StartHigh, Prescale}
 use Rattle.registers.specs.declared.address.Register.{Register}
 use Rattle.registers.specs.declared.address.Register.the-variants.{Pixel, Sprite, Palette, Video, Ivr, Converter, Channel, Dcsr, Status, Empty}

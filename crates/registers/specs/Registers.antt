@@ -1,11 +1,11 @@
 -- 01, "The register page": what a byte written to a register does, and what a register reads as.
-use mathlib.Core.Bool.{Bool, true, false}
+use mathlib.Core.Bool.{Bool, false}
 use mathlib.Core.List.{List, [], _∷_}
 use Prim.Native.Nat.{ℕ, _+_, _-_, _*_, _/_, _%_}
 use lib.Dec.{ltb}
 use lib.ListN.{getD, set}
-use Rattle.words.specs.Answers.{done, nothingThere, converterThere}
-use Rattle.words.specs.Choice.{if, bit}
+use Rattle.common.specs.Answers.{done, nothingThere, converterThere}
+use Rattle.common.specs.Choice.{if, bit}
 use Rattle.sound.specs.declared.Channel.{Channel}
 use Rattle.sound.specs.Channels.{withAddress, withFlags}
 use Rattle.sound.specs.Line.{channelOf}

@@ -5,7 +5,7 @@ use picture::sprite::Sprite;
 ghost use mathlib.Core.Path.{_≡_};
 ghost use lib.Dec.{ltb};
 ghost use lib.ListN.{getD};
-ghost use Rattle.words.specs.Choice.{if};
+ghost use Rattle.common.specs.Choice.{if};
 ghost use Rattle.picture.specs.Sprites.{offSprite, shown};
 ghost use Rattle.registers.specs.Registers.{dcsr, registerRead};
 ghost use Rattle.registers.specs.Flags.{Flagged};
@@ -69,7 +69,7 @@ pub fn register_read(chip: Chip, store: &[u8], register: Register, bus: u8) -> u
     ensures { λ r. ⌜ r ≡ registerRead chip (now (store .entry)) register bus ⌝ }
 {
     match register {
-        Register::Pixel(i) => words::byte_at(store, i) % 16,
+        Register::Pixel(i) => common::byte_at(store, i) % 16,
         Register::Sprite(n, place) => sprite_read(chip, n, place, bus),
         Register::Palette(i) => {
             let palette = chip.palette;

@@ -2,15 +2,15 @@
 use crate::address::ChannelRegister;
 use crate::address::Register;
 use crate::address::VideoRegister;
+use common::answer::CONVERTER_THERE;
+use common::answer::DONE;
+use common::answer::NOTHING_THERE;
 use crtc::Video;
 use sound::Channel;
 use sound::Sound;
-use words::answer::CONVERTER_THERE;
-use words::answer::DONE;
-use words::answer::NOTHING_THERE;
 ghost use mathlib.Core.Bool.{false};
 ghost use mathlib.Core.Path.{_≡_};
-ghost use Rattle.words.specs.Choice.{if};
+ghost use Rattle.common.specs.Choice.{if};
 ghost use Rattle.sound.specs.Channels.{withFlags};
 ghost use Rattle.registers.specs.Registers.{registerAnswer, videoWritten, channelWritten, channelsWritten, dcsrWritten, storePut};
 

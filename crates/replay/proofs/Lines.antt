@@ -2,20 +2,26 @@
 use native.Mathlib.Nat.{add-zero}
 use native.Mathlib.Omega.{arith}
 use borrow.Author.Tests.{eq-eqb}
-use mathlib.Core.Path.{_≡_}
-use mathlib.Core.Bool.{Bool}
-use mathlib.Core.List.{List}
-use Prim.Native.Nat.{ℕ, suc, _+_, _-_, _<_, _≤_}
+use mathlib.Core.Path.{_≡_, refl, _∙_, ap}
+use mathlib.Core.Bool.{Bool, true, false}
+use mathlib.Core.List.{List, [], _∷_, _++_}
+use Prim.Native.Nat.{ℕ, zero, suc, _+_, _-_, _<_, _≤_}
+use lib.Dec.{eqb}
 use lib.ListN.{length}
-use Rattle.words.specs.Choice.{either}
+use Rattle.common.specs.Choice.{if, either}
 use Rattle.sound.specs.declared.Accesses.{Accesses}
 use Rattle.sound.specs.declared.Sound.{Sound}
 use Rattle.chip.specs.declared.Crtc.{Crtc}
 use Rattle.chip.specs.declared.Chip.{Chip}
 use Rattle.chip.specs.declared.line.Moved.{Moved}
-use Rattle.chip.specs.Step.{stepAnswer, counted, stepped, Moves}
-use Rattle.replay.specs.Replay.{Played, linesOn, reached}
-use Rattle.replay.specs.Parts.{moved}
+use Rattle.chip.specs.Step.{stepAnswer, countersStepped, stepped, Moves}
+use Rattle.runs.specs.World.{World, withChip}
+use Rattle.runs.specs.Call.{Call, line, answerTo, worldAfter}
+use Rattle.runs.specs.Sort.{sortOf, lineIn, onLine}
+use Rattle.runs.specs.Run.{worldOver}
+use Rattle.take.specs.declared.Record.{Record}
+use Rattle.replay.specs.Replay.{Progress, callBy, off, linesThen, later, callsFrom, refusalCounted, over, replayed}
+use Rattle.replay.specs.Parts.{moved, linesOn, answerIn, recordReplayed}
 
 -- RAM of 65,536 bytes is served
 pub full-served : (ram : List ℕ) → length ram ≡ 65536 → stepAnswer ram ≡ 0
@@ -28,7 +34,7 @@ pub parts-moved :
     Moves s k (c .video) ram a r →
     moved c (r .sound) (record { selected = k .selected; registers = k .registers; counters = r .counters }) (either (r .raster) raster)
     ≡ stepped ram (moved c s k raster)
-unfolding stepped counted
+unfolding stepped countersStepped
 parts-moved ram c s k raster a r whole m =
     let served = full-served ram whole in
     rw (m .sound, m .counters, m .raster, served)
@@ -48,23 +54,72 @@ module _ (ram : List ℕ) (to at : ℕ) (c : Chip) where
       let e : to - at ≡ 0 = omega arith in
       rw e
 
--- a line stepped by hand
-abbrev pub lineOn : List ℕ → Played → Played
-lineOn ram p =
-    record { chip = stepped ram (p .chip); store = p .store; places = p .places; lines = suc (p .lines); counts = p .counts }
+-- lines before other calls, on whole RAM: they are stepped, and counted
+pub lines-first :
+    (n : ℕ) (p : Progress) (cs : List Call) → length (p .world .lent .ram) ≡ 65536 →
+    over p (linesThen n cs)
+    ≡ over
+    (record {
+      world = withChip (p .world) (linesOn (p .world .lent .ram) n (p .world .chip));
+      lines = p .lines + n;
+      counts = p .counts;
+    })
+    cs
+unfolding linesThen linesOn
+lines-first zero p cs full = rw (add-zero (p .lines))
+lines-first (suc n) p cs full =
+    let w = p .world in
+    let next = withChip w (stepped (w .lent .ram) (w .chip)) in
+    let on : worldAfter w (line off) ≡ next = simp (eq-eqb _ _ (full-served (w .lent .ram) full)) in
+    let e : suc (p .lines) + n ≡ p .lines + suc n = omega arith in
+    ap (λ (x : World). over (record { world = x; lines = suc (p .lines); counts = p .counts }) (linesThen n cs)) on
+    ∙ lines-first n (record { world = next; lines = suc (p .lines); counts = p .counts }) cs full
+    ∙ ap
+    (λ (m : ℕ). over (record { world = withChip next (linesOn (w .lent .ram) n (next .chip)); lines = m; counts = p .counts }) cs)
+    e
 
-module _ (ram : List ℕ) (line : ℕ) (p : Played) where
-  -- after it the same is reached
-  pub reached-on : p .lines < line → reached ram line (lineOn ram p) ≡ reached ram line p
-  unfolding reached linesOn
-  reached-on h =
-      let e : line - p .lines ≡ suc (line - suc (p .lines)) = omega arith in
-      let f : suc (p .lines) + (line - suc (p .lines)) ≡ p .lines + suc (line - suc (p .lines)) = omega arith in
-      rw (e, f)
+-- a record is one call that is no line step, or none
+data Few : List Call → Type 0 where
+  none : Few []
+  one : {c : Call} → lineIn (sortOf c) ≡ [] → Few (c ∷ [])
 
-  -- a number that is reached already
-  pub reached-here : line ≤ p .lines → reached ram line p ≡ p
-  unfolding reached linesOn
-  reached-here h =
-      let e : line - p .lines ≡ 0 = omega arith in
-      rw (e, add-zero)
+either-few : (t : Bool) (cs ds : List Call) → Few cs → Few ds → Few (if t cs ds)
+either-few true cs ds h i = h
+either-few false cs ds h i = i
+
+few : (r : Record) → Few (callBy r)
+few r =
+    either-few (eqb (r .kind) 1) _ _ (one refl)
+    (either-few (eqb (r .kind) 2) _ _ (one refl)
+    (either-few (eqb (r .kind) 3) _ _ (one refl)
+    (either-few (eqb (r .kind) 4) _ _ (one refl)
+    (either-few (eqb (r .kind) 5) _ _ (one refl) (either-few (eqb (r .kind) 6) _ _ (one refl) none)))))
+
+-- it is made, and its answer counted
+few-over :
+    (p : Progress) (cs more : List Call) → Few cs →
+    over p (cs ++ more)
+    ≡ over
+    (record { world = worldOver (p .world) cs; lines = p .lines; counts = refusalCounted (p .counts) (answerIn (p .world) cs) })
+    more
+few-over p cs more none = refl
+few-over p cs more (one {c} e) =
+    let w = worldAfter (p .world) c in
+    let next = refusalCounted (p .counts) (answerTo (p .world) c) in
+    let same :
+    _≡_ {A = Progress}
+    (record { world = w; lines = onLine (λ a. suc (p .lines)) (p .lines) c; counts = onLine (λ a. p .counts) next c })
+    (record { world = w; lines = p .lines; counts = next }) =
+    rw e in
+    ap (λ (x : Progress). over x more) same
+
+-- the records after one, from where it leads
+pub replayed-on :
+    (p : Progress) (r : Record) (rs : List Record) → length (p .world .lent .ram) ≡ 65536 →
+    replayed p (r ∷ rs) ≡ replayed (recordReplayed p r) rs
+unfolding replayed recordReplayed callsFrom
+replayed-on p r rs full =
+    let at = later (p .lines) (r .line) in
+    let w = withChip (p .world) (linesOn (p .world .lent .ram) (r .line - p .lines) (p .world .chip)) in
+    lines-first (r .line - p .lines) p (callBy r ++ callsFrom at rs) full
+    ∙ few-over (record { world = w; lines = at; counts = p .counts }) (callBy r) (callsFrom at rs) (few r)

@@ -7,28 +7,30 @@ use lib.ListN.{length, getD, take, drop, replicate, length-drop}
 use lib.Seq.{drop-drop, length-take-le}
 use Rattle.chip.specs.declared.Chip.{Chip}
 use Rattle.chip.specs.declared.Answered.{Answered}
-use Rattle.runs.specs.Ask.{answerTo}
+use Rattle.runs.specs.World.{withChip}
 use Rattle.take.specs.declared.Record.{Record}
 use Rattle.take.specs.Bytes.{AreBytes, numberOf}
 use Rattle.take.specs.Record.{unpacked}
-use Rattle.take.specs.Open.{trailerOf, countOf, recordsFrom, recordsOf, openAnswer, Opening}
+use Rattle.take.specs.Open.{trailerOf, countOf, offsetOf, recordsFrom, recordsOf, openAnswer, Opening}
 use Rattle.take.proofs.Trailers.{long, done-met}
 use Rattle.take.proofs.Numbers.{number-below, take-below, drop-below}
 use Rattle.reader.specs.declared.Found.{Found}
 use Rattle.reader.specs.declared.Found.the-variants.{One, End}
 use Rattle.reader.specs.declared.Advanced.{Advanced}
-use Rattle.reader.specs.Reader.{foundAt, afterAt, advancedAt}
+use Rattle.reader.specs.Reader.{firstPlace, foundAt, afterAt, advancedAt}
 use Rattle.reader.proofs.Places.{found-end, found-one, after-one}
 use Rattle.replay.specs.declared.Player.{Player}
-use Rattle.replay.specs.Replay.{Played, noCounts, fresh, askOf, counted, linesOn, reached, playedOne, played}
-use Rattle.replay.specs.Parts.{playedBy, later, Room, Calls, Opened}
+use Rattle.replay.specs.Replay.{Progress, noCounts, fresh, callBy, later, refusalCounted, callsFrom, replayed}
+use Rattle.replay.specs.Parts.{progressBy, linesOn, answerIn, recordReplayed, Room, Calls, Opened}
 use Rattle.replay.proofs.Counts.{count-more}
+use Rattle.replay.proofs.Lines.{replayed-on}
 
 -- so many records are left at a place of a file, and played from here they come to the whole; the counts have room for each
-pub record Playing (ram file : List ℕ) (whole p : Played) (at : ℕ) : Type 0 where
+pub record Playing (file : List ℕ) (whole p : Progress) (at : ℕ) : Type 0 where
+  pub full : length (p .world .lent .ram) ≡ 65536
   pub left : ℕ
   pub place : at + 8 * left + 12 ≡ length file
-  pub same : played ram p (recordsFrom left (drop at file)) ≡ whole
+  pub same : replayed p (recordsFrom left (drop at file)) ≡ whole
   pub room : (i : ℕ) → getD (p .counts) i 0 + left < 2 ^ 32
 
 none-counted : (i : ℕ) → getD noCounts i 0 ≡ 0
@@ -41,33 +43,38 @@ none-counted i = go 24 i
 
 -- at reset all are left
 pub starts :
-    (ram store places : List ℕ) {file : List ℕ} {first : ℕ} → Opened file first →
-    Playing ram file (played ram (fresh store places) (recordsOf file)) (fresh store places) first
-unfolding recordsOf
-starts ram store places {file} o =
+    (ram store places : List ℕ) {file : List ℕ} {first : ℕ} → length ram ≡ 65536 → Opened file → first ≡ firstPlace file →
+    Playing file (replayed (fresh ram store places) (recordsOf file)) (fresh ram store places) first
+unfolding recordsOf firstPlace
+starts ram store places {file} {first} full o at =
     let m = done-met file (o .opens) in
+    let place : first ≡ offsetOf file = at ∙ simp (o .opens) in
     record {
+      full = full;
       left = countOf file;
-      place = rw (o .place) (m .sum);
-      same = rw (o .place);
+      place = rw place (m .sum);
+      same = rw place;
       room = λ i. rw (none-counted i) (omega (arith, o .count));
     }
 
 -- a count after one record
-one-more : (ram : List ℕ) (p : Played) (r : Record) (i : ℕ) → getD (playedOne ram p r .counts) i 0 ≤ getD (p .counts) i 0 + 1
-unfolding playedOne reached
-one-more ram p r i = count-more (p .counts) (answerTo (reached ram (r .line) p .chip) (askOf (p .store) (p .places) r)) i
+one-more : (p : Progress) (r : Record) (i : ℕ) → getD (recordReplayed p r .counts) i 0 ≤ getD (p .counts) i 0 + 1
+unfolding recordReplayed
+one-more p r i =
+    count-more (p .counts)
+    (answerIn (withChip (p .world) (linesOn (p .world .lent .ram) (r .line - p .lines) (p .world .chip))) (callBy r)) i
 
 -- one record is played by its parts
-pub one-played :
+pub one-replayed :
     (ram : List ℕ) (p : Player) {store places store' places' : List ℕ} {r : Record} {c : Chip} {a : Answered} {number : ℕ} {counts : List ℕ} →
     c ≡ linesOn ram (r .line - p .lines) (p .chip) → Calls c store places r store' places' a → number ≡ later (p .lines) (r .line) →
-    counts ≡ counted (p .counts) (a .answer) →
-    playedBy (record { chip = a .chip; lines = number; counts = counts }) store' places' ≡ playedOne ram (playedBy p store places) r
-unfolding playedOne reached
-one-played ram p on call to count = rw (count, to, call .answer, call .chip, call .store-after, call .places-after, on)
+    counts ≡ refusalCounted (p .counts) (a .answer) →
+    progressBy (record { chip = a .chip; lines = number; counts = counts }) ram store' places'
+    ≡ recordReplayed (progressBy p ram store places) r
+unfolding recordReplayed
+one-replayed ram p on call to count = rw (count, to, call .answer ram, call .world ram, on)
 
-module _ {ram file : List ℕ} {whole p : Played} {at : ℕ} (s : Playing ram file whole p at) where
+module _ {file : List ℕ} {whole p : Progress} {at : ℕ} (s : Playing file whole p at) where
   -- what the reader's step tells
   module _ {a : Advanced} (e : a ≡ advancedAt file at) where
     pub found-is : {f : Found} → a .found ≡ f → foundAt file at ≡ f
@@ -78,7 +85,7 @@ module _ {ram file : List ℕ} {whole p : Played} {at : ℕ} (s : Playing ram fi
 
   -- the end is handed out where none is left
   pub ends : foundAt file at ≡ End → p ≡ whole
-  unfolding played
+  unfolding replayed callsFrom
   ends e = go (s .left) refl
     where
       go : (n : ℕ) → s .left ≡ n → p ≡ whole
@@ -118,18 +125,21 @@ module _ {ram file : List ℕ} {whole p : Played} {at : ℕ} (s : Playing ram fi
         record { each = λ i. omega (arith, s .room i) }
 
     -- it is played, and one fewer is left
-    pub goes-on : {q : Played} {to : ℕ} → q ≡ playedOne ram p r → to ≡ afterAt file at → Playing ram file whole q to
-    unfolding played
-    goes-on {q} {to} f t =
+    pub goes-on :
+        {q : Progress} {to : ℕ} → q ≡ recordReplayed p r → length (q .world .lent .ram) ≡ 65536 → to ≡ afterAt file at →
+        Playing file whole q to
+    goes-on {q} {to} f full t =
         let n = next e in
         let a : to ≡ at + 8 = t ∙ place-on .1 in
-        let is : q ≡ playedOne ram p (unpacked (numberOf (take 8 (drop at file)))) = f ∙ ap (playedOne ram p) (n .is) in
+        let x : Record = unpacked (numberOf (take 8 (drop at file))) in
+        let is : q ≡ recordReplayed p x = f ∙ ap (recordReplayed p) (n .is) in
         let after : drop to file ≡ drop 8 (drop at file) = ap (λ k. drop k file) a ∙ sym (drop-drop 8 at file) in
         record {
+          full = full;
           left = n .rest;
           place = omega (arith, s .place);
-          same = rw (is, after) (rw (n .one) at (s .same));
-          room = λ i. rw f (omega (arith, s .room i, one-more ram p r i));
+          same = rw (is, after) (sym (replayed-on p x _ (s .full)) ∙ (rw (n .one) at (s .same)));
+          room = λ i. rw f (omega (arith, s .room i, one-more p r i));
         }
 
 -- a take's count is a number of 4 bytes
@@ -141,7 +151,7 @@ count-small file b h =
 
 -- what opening gives
 pub opened :
-    {file : List ℕ} {answer bad count offset : ℕ} → AreBytes file → Opening file answer bad count offset → answer ≡ 0 → Opened file offset
+    {file : List ℕ} {answer bad count offset : ℕ} → AreBytes file → Opening file answer bad count offset → answer ≡ 0 → Opened file
 opened {file} b o z =
     let d : openAnswer file ≡ 0 = sym (o .answered) ∙ z in
-    record { opens = d; place = simp d at (o .placed); count = count-small file b (long file (done-met file d .has)) }
+    record { opens = d; count = count-small file b (long file (done-met file d .has)) }

@@ -6,15 +6,16 @@ use mathlib.Core.List.{List}
 use Prim.Native.Nat.{ℕ}
 use lib.Dec.{eqb}
 use lib.ListN.{length}
-use Rattle.words.specs.Answers.{badRecord}
-use Rattle.words.specs.Choice.{if}
+use Rattle.common.specs.Answers.{badRecord}
+use Rattle.common.specs.Choice.{if}
 use Rattle.take.specs.Record.{firstBad}
 use Rattle.take.specs.Open.{openAnswer, recordsOf, Opening}
 use Rattle.replay.specs.declared.Player.{Player}
 use Rattle.replay.specs.declared.Replayed.{Replayed}
-use Rattle.replay.specs.Replay.{Played, fresh, played}
+use Rattle.replay.specs.Replay.{Progress, fresh, replayed}
 use Rattle.replay.specs.Contract.{replayAnswer, outcome, Replays}
-use Rattle.replay.specs.Parts.{playedBy, Begun, Tells}
+use Rattle.replay.specs.Parts.{progressBy, Begun, Tells}
+use Rattle.replay.proofs.ByHand.{as-by-hand}
 
 -- the answer by the lengths
 module _ (ram store file : List ℕ) where
@@ -48,6 +49,7 @@ module _ {ram store places file : List ℕ} {p : Player} {r : Replayed} where
         counts = t .counts ∙ b .none ∙ simp z;
         store-after = simp z;
         places-after = simp z;
+        by-hand = λ d. absurd (n (sym (t .answer) ∙ d));
       }
 
   -- by a length
@@ -61,13 +63,13 @@ module _ {ram store places file : List ℕ} {p : Player} {r : Replayed} where
       {answer first count offset : ℕ} → replayAnswer ram store file ≡ openAnswer file → Opening file answer first count offset →
       (answer ≡ 0 → ⊥) → Begun (p .chip) (p .lines) (p .counts) → Tells answer first p r →
       Replays ram store places file store places r
-  by-take e o n b t = refused (o .answered ∙ sym e) n (rw e (o .firstBad)) b t
+  by-take e o n b t = refused (o .answered ∙ sym e) n (rw e (o .badNumber)) b t
 
 -- served: all is played
 pub plays :
     {ram store places file store' places' : List ℕ} {p : Player} {r : Replayed} {answer first count offset : ℕ} →
     replayAnswer ram store file ≡ openAnswer file → Opening file answer first count offset → answer ≡ 0 →
-    playedBy p store' places' ≡ played ram (fresh store places) (recordsOf file) → Tells 0 0 p r →
+    progressBy p ram store' places' ≡ replayed (fresh ram store places) (recordsOf file) → Tells 0 0 p r →
     Replays ram store places file store' places' r
 unfolding outcome
 plays {ram} {store} {places} {file} e o z s t =
@@ -75,9 +77,10 @@ plays {ram} {store} {places} {file} e o z s t =
     record {
       answer = t .answer ∙ sym d;
       bad = t .bad ∙ simp d;
-      chip = t .chip ∙ simp d (ap (λ (q : Played). q .chip) s);
-      lines = t .lines ∙ simp d (ap (λ (q : Played). q .lines) s);
-      counts = t .counts ∙ simp d (ap (λ (q : Played). q .counts) s);
-      store-after = simp d (ap (λ (q : Played). q .store) s);
-      places-after = simp d (ap (λ (q : Played). q .places) s);
+      chip = t .chip ∙ simp d (ap (λ (q : Progress). q .world .chip) s);
+      lines = t .lines ∙ simp d (ap (λ (q : Progress). q .lines) s);
+      counts = t .counts ∙ simp d (ap (λ (q : Progress). q .counts) s);
+      store-after = simp d (ap (λ (q : Progress). q .world .lent .store) s);
+      places-after = simp d (ap (λ (q : Progress). q .world .lent .places) s);
+      by-hand = λ y log w h. as-by-hand (rw (t .chip, t .lines, t .counts) s) h;
     }

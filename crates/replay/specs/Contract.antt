@@ -4,28 +4,35 @@ use mathlib.Core.List.{List}
 use Prim.Native.Nat.{ℕ}
 use lib.Dec.{eqb}
 use lib.ListN.{length}
-use Rattle.words.specs.Answers.{wrongLength, badRecord, served}
-use Rattle.words.specs.Choice.{if, both}
+use Rattle.common.specs.Answers.{done, wrongLength, badRecord, served}
+use Rattle.common.specs.Choice.{if, both}
+use Rattle.common.specs.Sizes.{ramBytes, storeBytes}
 use Rattle.take.specs.Record.{firstBad}
 use Rattle.take.specs.Open.{openAnswer, recordsOf}
+use Rattle.runs.specs.World.{World}
+use Rattle.runs.specs.Run.{Made}
 use Rattle.replay.specs.declared.Replayed.{Replayed}
-use Rattle.replay.specs.Replay.{Played, fresh, played}
+use Rattle.replay.specs.Replay.{Progress, fresh, replayed}
+use Rattle.replay.specs.ByHand.{ByHand, AsByHand}
 
 -- RAM has 65,536 bytes and the store 4,096; then the take is opened, whole, before anything is played
 unfoldable pub replayAnswer : List ℕ → List ℕ → List ℕ → ℕ
 replayAnswer ram store file =
-    if (both (eqb (length ram) 65536) (eqb (length store) 4096)) (openAnswer file) wrongLength
+    if (both (eqb (length ram) ramBytes) (eqb (length store) storeBytes)) (openAnswer file) wrongLength
 
 -- where it is served all records are played from reset; where it is refused nothing is
-unfoldable pub outcome : List ℕ → List ℕ → List ℕ → List ℕ → Played
+unfoldable pub outcome : List ℕ → List ℕ → List ℕ → List ℕ → Progress
 outcome ram store places file =
-    served (replayAnswer ram store file) (played ram (fresh store places) (recordsOf file)) (fresh store places)
+    served (replayAnswer ram store file) (replayed (fresh ram store places) (recordsOf file)) (fresh ram store places)
 
+-- and where it is served, what making the calls by hand gives
 pub record Replays (ram store places file store' places' : List ℕ) (r : Replayed) : Type 0 where
   pub answer : r .answer ≡ replayAnswer ram store file
   pub bad : r .bad ≡ if (eqb (replayAnswer ram store file) badRecord) (firstBad (recordsOf file)) 0
-  pub chip : r .chip ≡ outcome ram store places file .chip
+  pub chip : r .chip ≡ outcome ram store places file .world .chip
   pub lines : r .lines ≡ outcome ram store places file .lines
   pub counts : r .counts ≡ outcome ram store places file .counts
-  pub store-after : store' ≡ outcome ram store places file .store
-  pub places-after : places' ≡ outcome ram store places file .places
+  pub store-after : store' ≡ outcome ram store places file .world .lent .store
+  pub places-after : places' ≡ outcome ram store places file .world .lent .places
+  pub by-hand :
+      r .answer ≡ done → (log : List Made) (w : World) → ByHand ram store places (recordsOf file) log w → AsByHand log w store' places' r

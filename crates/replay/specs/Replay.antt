@@ -1,103 +1,81 @@
--- Request L8: a take played from reset, one record after the other, in the words of the calls' own promises.
-use mathlib.Core.List.{List, [], _∷_}
+-- Request L8: a take played from reset: the calls that its records are, and what they come to.
+use mathlib.Core.List.{List, [], _∷_, _++_}
 use Prim.Native.Nat.{ℕ, zero, suc, _+_, _-_}
 use lib.Dec.{eqb}
 use lib.ListN.{getD, set, replicate}
-use Rattle.words.specs.Answers.{done, served}
-use Rattle.words.specs.Choice.{if}
-use Rattle.chip.specs.declared.Chip.{Chip}
+use Rattle.common.specs.Answers.{done}
+use Rattle.common.specs.Choice.{if}
+use Rattle.sound.specs.declared.Access.the-variants.{Off}
+use Rattle.sound.specs.declared.Accesses.{Accesses}
 use Rattle.chip.specs.Reset.{resetChip}
-use Rattle.chip.specs.Step.{stepped}
-use Rattle.registers.specs.Address.{registerAt}
-use Rattle.registers.specs.Registers.{storeWritten}
-use Rattle.page.specs.Page.{placesAfter}
-use Rattle.page.specs.Undo.{newest, storeUndone}
-use Rattle.runs.specs.Ask.{Ask, bc, bd, gate, read, write, undo, ack, answerTo, chipAfter}
 use Rattle.take.specs.declared.Record.{Record}
+use Rattle.runs.specs.World.{World, worldOf}
+use Rattle.runs.specs.Call.{Call, bc, bd, gate, write, undo, ack, line}
+use Rattle.runs.specs.Sort.{onLine}
+use Rattle.runs.specs.Run.{Made, madeOver, worldOver}
 
--- how far a replay is: the chip, the pixel store, the undo record's places, the lines stepped since reset, and how often each refusal
--- number has come, at the place of that number
-pub record Played : Type 0 where
-  pub chip : Chip
-  pub store : List ℕ
-  pub places : List ℕ
-  pub lines : ℕ
-  pub counts : List ℕ
+-- the call of a record by its kind: 1 to 3 write to BCxx, BDxx and 7Fxx, 4 writes to the page, 5 acknowledges, 6 takes a write back. No
+-- other kind is a call
+abbrev pub callBy : Record → List Call
+callBy r =
+    if (eqb (r .kind) 1) (bc (r .value) ∷ [])
+    (if (eqb (r .kind) 2) (bd (r .value) ∷ [])
+    (if (eqb (r .kind) 3) (gate (r .value) ∷ [])
+    (if (eqb (r .kind) 4) (write (r .address) (r .value) ∷ [])
+    (if (eqb (r .kind) 5) (ack ∷ []) (if (eqb (r .kind) 6) (undo ∷ []) [])))))
 
--- the numbers of refusals go up to 23
+-- a line step with the processor off the 8255 for each channel; so many of them before other calls
+abbrev pub off : Accesses
+off = record { first = Off; second = Off; third = Off }
+
+unfoldable pub linesThen : ℕ → List Call → List Call
+linesThen zero cs = cs
+linesThen (suc n) cs = line off ∷ linesThen n cs
+
+-- the line number after lines were stepped until another is reached: none where it is reached already
+abbrev pub later : ℕ → ℕ → ℕ
+later from to = from + (to - from)
+
+-- the calls of all records, in order, from a line number on: before each one lines until its number is reached
+unfoldable pub callsFrom : ℕ → List Record → List Call
+callsFrom at [] = []
+callsFrom at (r ∷ rs) = linesThen (r .line - at) (callBy r ++ callsFrom (later at (r .line)) rs)
+
+-- a refusal is counted at its number; the numbers go up to 23
 abbrev pub noCounts : List ℕ
 noCounts = replicate 24 0
 
--- at reset, with the lent store and places
-abbrev pub fresh : List ℕ → List ℕ → Played
-fresh store places =
-    record { chip = resetChip; store = store; places = places; lines = 0; counts = noCounts }
+abbrev pub refusalCounted : List ℕ → ℕ → List ℕ
+refusalCounted counts answer = if (eqb answer done) counts (set counts answer (getD counts answer 0 + 1))
 
--- the call of a record by its kind, with the lent store and places: 1 to 3 write to BCxx, BDxx and 7Fxx, 4 writes to the page,
--- 5 acknowledges, 6 takes a write back
-abbrev pub askOf : List ℕ → List ℕ → Record → Ask
-askOf store places r =
-    if (eqb (r .kind) 1) (bc (r .value))
-    (if (eqb (r .kind) 2) (bd (r .value))
-    (if (eqb (r .kind) 3) (gate (r .value))
-    (if (eqb (r .kind) 4) (write store (r .address) (r .value))
-    (if (eqb (r .kind) 5) ack (undo store places)))))
+-- the lines stepped, and how often each refusal number has come to a call other than a line step, over a run
+abbrev pub linesOver : ℕ → List Made → ℕ
+linesOver at [] = at
+linesOver at (e ∷ es) = linesOver (onLine (λ a. suc at) at (e .asks)) es
 
--- the store and the places after a call
-abbrev pub storeAfter : Chip → List ℕ → Ask → List ℕ
-storeAfter c store (write s a b) = served (answerTo c (write s a b)) (storeWritten s (registerAt a) b) store
-storeAfter c store (undo s places) = served (answerTo c (undo s places)) (storeUndone s (newest c places)) store
-storeAfter c store (bc b) = store
-storeAfter c store (bd b) = store
-storeAfter c store (gate b) = store
-storeAfter c store (read s a bus) = store
-storeAfter c store ack = store
+abbrev pub countsOver : List ℕ → List Made → List ℕ
+countsOver counts [] = counts
+countsOver counts (e ∷ es) = countsOver (onLine (λ a. counts) (refusalCounted counts (e .reply .answer)) (e .asks)) es
 
-abbrev pub placesLeft : Chip → List ℕ → Ask → List ℕ
-placesLeft c places (write s a b) = served (answerTo c (write s a b)) (placesAfter c s places a) places
-placesLeft c places (undo s p) = places
-placesLeft c places (bc b) = places
-placesLeft c places (bd b) = places
-placesLeft c places (gate b) = places
-placesLeft c places (read s a bus) = places
-placesLeft c places ack = places
+-- how far a replay is: the chip with the lent RAM, store and places, the lines stepped since reset, and those counts
+pub record Progress : Type 0 where
+  pub world : World
+  pub lines : ℕ
+  pub counts : List ℕ
 
--- a refusal is counted at its number
-abbrev pub counted : List ℕ → ℕ → List ℕ
-counted counts answer = if (eqb answer done) counts (set counts answer (getD counts answer 0 + 1))
+-- at reset
+abbrev pub fresh : List ℕ → List ℕ → List ℕ → Progress
+fresh ram store places = record { world = worldOf resetChip ram store places; lines = 0; counts = noCounts }
 
--- after a call, served or refused
-abbrev pub called : Played → Ask → Played
-called p x =
+-- after calls
+abbrev pub over : Progress → List Call → Progress
+over p cs =
     record {
-      chip = chipAfter (p .chip) x;
-      store = storeAfter (p .chip) (p .store) x;
-      places = placesLeft (p .chip) (p .places) x;
-      lines = p .lines;
-      counts = counted (p .counts) (answerTo (p .chip) x);
+      world = worldOver (p .world) cs;
+      lines = linesOver (p .lines) (madeOver (p .world) cs);
+      counts = countsOver (p .counts) (madeOver (p .world) cs);
     }
 
--- so many line steps
-unfoldable pub linesOn : List ℕ → ℕ → Chip → Chip
-linesOn ram zero c = c
-linesOn ram (suc n) c = linesOn ram n (stepped ram c)
-
--- lines stepped until this number is reached; none where it is reached already
-unfoldable pub reached : List ℕ → ℕ → Played → Played
-reached ram line p =
-    record {
-      chip = linesOn ram (line - p .lines) (p .chip);
-      store = p .store;
-      places = p .places;
-      lines = p .lines + (line - p .lines);
-      counts = p .counts;
-    }
-
--- one record: its line is reached, then its call is made
-unfoldable pub playedOne : List ℕ → Played → Record → Played
-playedOne ram p r = called (reached ram (r .line) p) (askOf (p .store) (p .places) r)
-
--- all of them, in order
-unfoldable pub played : List ℕ → Played → List Record → Played
-played ram p [] = p
-played ram p (r ∷ rs) = played ram (playedOne ram p r) rs
+-- after all records
+unfoldable pub replayed : Progress → List Record → Progress
+replayed p rs = over p (callsFrom (p .lines) rs)

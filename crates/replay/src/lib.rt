@@ -1,20 +1,22 @@
 // A take played from reset.
 use chip::Answered;
 use chip::Chip;
+use common::answer::DONE;
+use common::answer::WRONG_LENGTH;
+use common::size::RAM;
+use common::size::STORE;
 use reader::Found;
 use sound::Access;
 use sound::Accesses;
 use take::Record;
-use words::answer::DONE;
-use words::answer::WRONG_LENGTH;
 ghost use mathlib.Core.Path.{_≡_};
 ghost use Prim.Native.Nat.{_-_, _<_};
 ghost use lib.ListN.{length};
 ghost use Rattle.chip.specs.Interrupts.{acknowledgeAnswer, acknowledged};
 ghost use Rattle.chip.specs.Contracts.{Answers};
 ghost use Rattle.take.specs.Open.{recordsOf};
-ghost use Rattle.replay.specs.Replay.{fresh, counted, linesOn, playedOne, played};
-ghost use Rattle.replay.specs.Parts.{playedBy, later, Room, Calls, Begun, Opened, Tells};
+ghost use Rattle.replay.specs.Replay.{fresh, refusalCounted, later, replayed};
+ghost use Rattle.replay.specs.Parts.{progressBy, linesOn, recordReplayed, Room, Calls, Begun, Opened, Tells};
 ghost use Rattle.replay.specs.Contract.{Replays};
 
 // What replay gives: the chip, the answer, the number of the first bad record, the lines stepped, and how often each refusal number
@@ -86,6 +88,13 @@ fn acknowledged(chip: Chip) -> Answered
     }
 }
 
+// What is no call changes nothing.
+fn no_call(chip: Chip) -> Answered
+    ensures { λ r. ⌜ (r .answer ≡ 0) × (r .chip ≡ chip) ⌝ }
+{
+    Answered { answer: DONE, chip }
+}
+
 // The call that a record names.
 fn called(chip: Chip, store: &mut [u8], places: &mut [u32; 256], entry: Record) -> Answered
     ensures { λ r. ⌜ Calls chip (now (store .entry)) (now (places .entry)) entry (now (store .exit)) (now (places .exit)) r ⌝ }
@@ -98,14 +107,15 @@ fn called(chip: Chip, store: &mut [u8], places: &mut [u32; 256], entry: Record) 
         3 => chip::ports::write_7f(chip, value),
         4 => page::page_write(chip, store, places, entry.address, value),
         5 => acknowledged(chip),
-        _ => page::undo(chip, store, places),
+        6 => page::undo(chip, store, places),
+        _ => no_call(chip),
     }
 }
 
 // A refusal counted at its number.
-fn counted(counts: [u32; 24], answer: u8) -> [u32; 24]
+fn refusal_counted(counts: [u32; 24], answer: u8) -> [u32; 24]
     requires { ⌜ (answer < 24) × Room counts ⌝ }
-    ensures { λ r. ⌜ r ≡ counted counts answer ⌝ }
+    ensures { λ r. ⌜ r ≡ refusalCounted counts answer ⌝ }
 {
     if answer == DONE {
         return counts;
@@ -117,7 +127,7 @@ fn counted(counts: [u32; 24], answer: u8) -> [u32; 24]
 }
 
 // One record: its line is reached, then its call is made.
-fn played_one(
+fn record_replayed(
     p: Player,
     ram: &[u8],
     store: &mut [u8],
@@ -125,12 +135,12 @@ fn played_one(
     entry: Record,
 ) -> Player
     requires { ⌜ (length (now ram) ≡ 65536) × Room (p .counts) ⌝ }
-    ensures { λ r. ⌜ playedBy r (now (store .exit)) (now (places .exit)) ≡ playedOne (now (ram .entry)) (playedBy p (now (store .entry)) (now (places .entry))) entry ⌝ }
+    ensures { λ r. ⌜ progressBy r (now (ram .entry)) (now (store .exit)) (now (places .exit)) ≡ recordReplayed (progressBy p (now (ram .entry)) (now (store .entry)) (now (places .entry))) entry ⌝ }
 {
     let chip = lines_on(p.chip, ram, p.lines, entry.line);
     let told = called(chip, store, places, entry);
     let before = p.counts;
-    let counts = counted(before, told.answer);
+    let counts = refusal_counted(before, told.answer);
     let after = told.chip;
     Player {
         chip: after,
@@ -150,18 +160,12 @@ fn begun() -> Player
     }
 }
 
-// Every record of a take that opens, from reset.
-fn records(
-    ram: &[u8],
-    store: &mut [u8],
-    places: &mut [u32; 256],
-    file: &[u8],
-    first: usize,
-) -> Player
-    requires { ⌜ (length (now ram) ≡ 65536) × Opened (now file) first ⌝ }
-    ensures { λ r. ⌜ playedBy r (now (store .exit)) (now (places .exit)) ≡ played (now (ram .entry)) (fresh (now (store .entry)) (now (places .entry))) (recordsOf (now (file .entry))) ⌝ }
+// Every record of a take that opens, from reset, as a reader over it hands them out.
+fn records(ram: &[u8], store: &mut [u8], places: &mut [u32; 256], file: &[u8]) -> Player
+    requires { ⌜ (length (now ram) ≡ 65536) × Opened (now file) ⌝ }
+    ensures { λ r. ⌜ progressBy r (now (ram .entry)) (now (store .exit)) (now (places .exit)) ≡ replayed (fresh (now (ram .entry)) (now (store .entry)) (now (places .entry))) (recordsOf (now (file .entry))) ⌝ }
 {
-    let mut at = first;
+    let mut at = reader::first_place(file);
     let mut p = begun();
     loop {
         let step = reader::advance(file, at);
@@ -169,7 +173,7 @@ fn records(
         let Found::One(entry) = found else {
             return p;
         };
-        p = played_one(p, ram, store, places, entry);
+        p = record_replayed(p, ram, store, places, entry);
         at = step.at;
     }
 }
@@ -193,10 +197,10 @@ fn told(answer: u8, bad: usize, p: Player) -> Replayed
 pub fn replay(ram: &[u8], store: &mut [u8], places: &mut [u32; 256], file: &[u8]) -> Replayed
     ensures { λ r. ⌜ Replays (now (ram .entry)) (now (store .entry)) (now (places .entry)) (now (file .entry)) (now (store .exit)) (now (places .exit)) r ⌝ }
 {
-    if ram.len() != 65536 {
+    if ram.len() != RAM {
         return told(WRONG_LENGTH, 0, begun());
     }
-    if store.len() != 4096 {
+    if store.len() != STORE {
         return told(WRONG_LENGTH, 0, begun());
     }
     let opened = take::open(file);
@@ -204,6 +208,6 @@ pub fn replay(ram: &[u8], store: &mut [u8], places: &mut [u32; 256], file: &[u8]
     if answer != DONE {
         return told(answer, opened.bad, begun());
     }
-    let end = records(ram, store, places, file, opened.offset);
+    let end = records(ram, store, places, file);
     told(DONE, 0, end)
 }

@@ -8,12 +8,12 @@ use native.Mathlib.Numerals.{add-one, unary-clauses}
 use native.Mathlib.Omega.{arith}
 use borrow.Author.Tests.{le-leb, lt-leb, eqb-true, eqb-false}
 use lib.Dec.{eqb}
-use Rattle.words.proofs.Order.{either-side}
-use Rattle.words.specs.Choice.{if}
+use Rattle.common.proofs.Order.{either-side}
+use Rattle.common.specs.Choice.{if}
 use lib.ListN.{length, take, getD, set}
 use lib.Seq.{take-nil, getD-set-same, getD-set-other}
 use Rattle.ring.specs.declared.Undo.{Undo}
-use Rattle.ring.specs.Ring.{back, entries, recordOf, pushed, Puts, popped, tail, head}
+use Rattle.ring.specs.Ring.{back, entries, recordOf, Puts, popped, tail, head}
 
 -- the place at which an entry is put is met again only 256 entries on: j places back, n entries are read
 untouched : (places : List ℕ) (next e place j n : ℕ) → next < 256 → (place + j) % 256 ≡ next → j + n < 256 →

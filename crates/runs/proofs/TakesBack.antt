@@ -1,101 +1,43 @@
--- 02, L5: each undo takes back the write of the newest moment, whatever has come between; and with nothing in between, bit for bit.
+-- 02, L5: each undo takes back the write of the newest snapshot, whatever has come between; and with nothing in between, bit for bit.
 use mathlib.Core.Path.{_≡_, refl, ap, sym, _∙_}
 use mathlib.Core.Bool.{Bool, true, false}
-use mathlib.Core.List.{List, [], _∷_, map}
+use mathlib.Core.List.{List, [], _∷_}
 use Prim.Native.Nat.{ℕ, zero, suc, _<_}
 use native.Mathlib.Omega.{arith}
 use borrow.Author.Tests.{eqb-true, eqb-false, eq-eqb}
 use lib.Dec.{eqb}
-use lib.ListN.{length, take, getD}
-use denote.Ref.{now}
-use Rattle.words.specs.Answers.{done, served}
-use Rattle.words.specs.Choice.{if}
-use Rattle.words.proofs.Lists.{after-set}
-use Rattle.ring.specs.Ring.{entries, recordOf, head, tail, popped}
+use lib.ListN.{length, take}
+use Rattle.common.specs.Answers.{done}
+use Rattle.common.specs.Choice.{if}
+use Rattle.common.proofs.Lists.{after-set}
+use Rattle.ring.specs.Ring.{entries, recordOf, head, popped}
 use Rattle.sound.specs.declared.Channel.{Channel}
 use Rattle.sound.specs.Line.{channelOf, offChannel}
 use Rattle.chip.specs.declared.Chip.{Chip}
-use Rattle.chip.specs.declared.Answered.{Answered}
 use Rattle.chip.specs.State.{withUndo}
 use Rattle.registers.specs.declared.address.ChannelRegister.{ChannelRegister}
 use Rattle.registers.specs.declared.address.ChannelRegister.the-variants.{StartLow, StartHigh, Prescale}
 use Rattle.registers.specs.declared.address.Register.{Register}
 use Rattle.registers.specs.declared.address.Register.the-variants.{Pixel, Sprite, Palette, Video, Ivr, Converter, Channel as ChannelAt, Dcsr, Status, Empty}
 use Rattle.registers.specs.Address.{registerAt}
-use Rattle.registers.specs.Registers.{channelWritten, registerWritten, storePut, storeWritten}
-use Rattle.contents.specs.Contents.{contents, Holds}
-use Rattle.contents.specs.Widths.{Widths, Bytes}
+use Rattle.registers.specs.Registers.{channelWritten, registerWritten, storePut, dcsr, registerRead}
+use Rattle.contents.specs.Contents.{contents}
+use Rattle.contents.specs.Shown.{showsDcsr}
+use Rattle.contents.specs.Widths.{Widths}
 use Rattle.contents.proofs.WidthsLaws.{contents-small}
 use Rattle.contents.proofs.ContentsLaws.{other-stays, put-contents}
-use Rattle.page.specs.Record.{isKept, entryRegister, entryContents, entryAt, recordIn}
-use Rattle.page.specs.Page.{writeAnswer, pageWritten, recordAfter, Writes}
-use Rattle.page.specs.Undo.{undoAnswer, newest, undone, storeUndone, Undoes}
-use Rattle.page.proofs.HoldsAt.{holds-at}
+use Rattle.contents.proofs.Shows.{same-own, same-dcsr}
+use Rattle.page.specs.UndoRecord.{isKept, entryAt, recordIn}
+use Rattle.page.specs.Page.{recordAfter}
+use Rattle.page.specs.Undo.{undoAnswer, newest, undone}
 use Rattle.page.proofs.UndoLaws.{unrecorded, entry-register, entry-contents, served-register, chip-again, store-again}
-use Rattle.runs.specs.Story.{Moment, momentsAfter, Story, fresh, wrote, undid, other, line, ChannelStays, TakesBack}
-use Rattle.runs.proofs.Asks.{changed}
-use Rattle.runs.proofs.Stories.{story-widths, story-bytes, entryOf, tells}
-
--- ---- what is known of a moment
-
-record Known (m : Moment) : Type 0 where
-  small : m .address < 65536
-  widths : Widths (m .chip)
-  bytes : Bytes (m .store)
-  holds : Holds (registerAt (m .address))
-  kept : isKept (registerAt (m .address)) ≡ true
-
-abbrev Each : List Moment → Type 0
-Each [] = Unit {0}
-Each (m ∷ ms) = Known m × Each ms
-
-each-take : (n : ℕ) (ms : List Moment) → Each ms → Each (take n ms)
-each-take zero ms e = tt
-each-take (suc n) [] e = tt
-each-take (suc n) (m ∷ ms) e = (e .0, each-take n ms (e .1))
-
-each-tail : (ms : List Moment) → Each ms → Each (tail ms)
-each-tail [] e = tt
-each-tail (m ∷ ms) e = e .1
-
--- the moments after a write, and after an undo
-wrote-known :
-    (c : Chip) (store : List ℕ) (a answer : ℕ) (ms : List Moment) →
-    (answer ≡ done → isKept (registerAt a) ≡ true → Known (record { address = a; chip = c; store = store })) → Each ms →
-    Each (momentsAfter c store a answer ms)
-wrote-known c store a answer ms first rest = go (eqb answer done) refl (isKept (registerAt a)) refl
-  where
-    m : Moment
-    m = record { address = a; chip = c; store = store }
-
-    go : (t : Bool) → eqb answer done ≡ t → (k : Bool) → isKept (registerAt a) ≡ k → Each (if t (if k (take 256 (m ∷ ms)) ms) ms)
-    go true e true k = each-take 256 (m ∷ ms) (first (eqb-true _ _ e) k, rest)
-    go true e false k = rest
-    go false e k f = rest
-
-undid-known : (answer : ℕ) (ms : List Moment) → Each ms → Each (served answer (tail ms) ms)
-undid-known answer ms rest = go (eqb answer done)
-  where
-    go : (t : Bool) → Each (if t (tail ms) ms)
-    go true = each-tail ms rest
-    go false = rest
-
-each-known : {c : Chip} {store places : List ℕ} {ms : List Moment} → Story c store places ms → Each ms
-each-known (fresh l s) = tt
-each-known (wrote {c} {ms} κs store places store' places' a b r s l h i) =
-    wrote-known c (now store) a (r .answer) ms
-    (λ z k.
-    record {
-      small = h;
-      widths = story-widths s;
-      bytes = story-bytes s;
-      holds = holds-at a (served-register c (length (now store)) a (sym (l .call .answer) ∙ z)) k;
-      kept = k;
-    })
-    (each-known s)
-each-known (undid {c} {ms} κs store places store' r s l) = undid-known (r .answer) ms (each-known s)
-each-known (other s k typed plain) = each-known s
-each-known (line κs ram a r s l) = each-known s
+use Rattle.runs.specs.World.{World, edited}
+use Rattle.runs.specs.Call.{write, undo, Reply}
+use Rattle.runs.specs.Run.{Made, Makes}
+use Rattle.runs.specs.Trace.{lentOn, Snapshot, Trace, ChannelStays, Restored, TakesBack}
+use Rattle.runs.proofs.Calls.{fixed, served-answer, served-is, written}
+use Rattle.runs.proofs.Within.{call-widths}
+use Rattle.runs.proofs.Traces.{Known, Knows, knows}
 
 -- ---- what is no register stays
 
@@ -120,7 +62,7 @@ moved : (d : Channel) {address prescale : ℕ} →
       counter = d .counter;
       mark = d .mark;
     })
-moved d = record { enabled = refl; interrupt = refl; pause = refl; count = refl; counter = refl; mark = refl }
+moved d = record { enabled = refl; interrupt = refl; keeps = record { pause = refl; count = refl; counter = refl; mark = refl } }
 
 channel-moved : (d : Channel) (r : ChannelRegister) (b : ℕ) → ChannelStays d (channelWritten d r b)
 channel-moved d StartLow b = moved d
@@ -180,50 +122,100 @@ undo-served c size h = go (eqb size 4096) refl (eqb (c .editing .undo .count) 0)
     go true e false f k = (eqb-true _ _ e, eqb-false _ _ f)
     go false e t f k = absurd (omega arith)
 
-module _ (c : Chip) (store places : List ℕ) (m : Moment) (ms : List Moment) (w : Widths c) (known : Known m)
-    (told : recordIn c places ≡ entryOf m ∷ map entryOf ms) {store' : List ℕ} {r : Answered} (u : Undoes c store places store' r)
-    (z : r .answer ≡ done) where
+-- DCSR reads as it did
+dcsr-stays : (c d : Chip) → Stays c d → dcsr d ≡ dcsr c
+unfolding dcsr
+dcsr-stays c d s =
+    rw (
+      s .last-raster,
+      s .channel 0 .interrupt,
+      s .channel 1 .interrupt,
+      s .channel 2 .interrupt,
+      s .channel 2 .enabled,
+      s .channel 1 .enabled,
+      s .channel 0 .enabled,
+    )
+
+module _ {w v : World} {r : Reply} {m : Snapshot} {ms : List Snapshot} (s : Knows (w .chip) (lentOn w) (m ∷ ms))
+    (k : Makes w undo r v) (z : r .answer ≡ done) where
   x : Register
   x = registerAt (m .address)
 
-  v : ℕ
-  v = contents (m .chip) (m .store) x
+  value : ℕ
+  value = contents (m .before .chip) (m .before .lent .store) x
 
-  byte : v < 256
-  unfolding v
-  byte = contents-small (m .chip) (m .store) (known .widths) (known .bytes) x
+  known : Known m
+  known = s .each .0
 
-  answered : undoAnswer c (length store) ≡ done
-  answered = sym (u .call .answer) ∙ z
+  byte : value < 256
+  unfolding value known
+  byte = contents-small (m .before .chip) (m .before .lent .store) (known .widths) (known .bytes) x
 
-  chip-is : r .chip ≡ withUndo (registerWritten c x v) (popped (c .editing .undo))
-  unfolding undone x v
-  chip-is =
-      u .call .chip ∙ changed (undoAnswer c (length store)) (undone c (newest c places)) c answered
-      ∙ rw (told, entry-register (m .address) v (known .small) byte, entry-contents (m .address) v (known .small) byte)
+  -- the world after it
+  after-is : v ≡ edited w (withUndo (registerWritten (w .chip) x value) (popped (w .chip .editing .undo))) (storePut (w .lent .store) x value) (w .lent .places)
+  unfolding undone x value known
+  after-is =
+      served-is k z
+      ∙ rw (
+        s .tells,
+        entry-register (m .address) value (known .small) byte,
+        entry-contents (m .address) value (known .small) byte,
+      )
 
-  store-is : store' ≡ storePut store x v
-  unfolding x v
-  store-is =
-      u .store-after ∙ changed (undoAnswer c (length store)) (storeUndone store (newest c places)) store answered
-      ∙ rw (told, entry-register (m .address) v (known .small) byte, entry-contents (m .address) v (known .small) byte)
-
-  stays : Stays c (registerWritten c x v)
-  unfolding x
-  stays = write-stays c x v (known .kept)
-
-  one-undo : TakesBack m c store (r .chip) store'
-  unfolding x v
-  one-undo =
-      rw (chip-is, store-is)
+  restored : Restored m w (v .chip) (v .lent .store)
+  unfolding x value known
+  restored =
+      let size = undo-served (w .chip) (length (w .lent .store)) (sym (served-answer k) ∙ z) .0 in
+      rw after-is
       (record {
         own =
-            unrecorded (registerWritten c x v) (popped (c .editing .undo)) (storePut store x v) x
-            ∙ put-contents c (m .chip) store (m .store) x w (undo-served c (length store) answered .0) byte (known .holds);
+            unrecorded (registerWritten (w .chip) x value) (popped (w .chip .editing .undo)) (storePut (w .lent .store) x value) x
+            ∙ put-contents (w .chip) (m .before .chip) (w .lent .store) (m .before .lent .store) x (s .widths) size byte (known .holds);
         others =
             λ y apart.
-            unrecorded (registerWritten c x v) (popped (c .editing .undo)) (storePut store x v) y
-            ∙ other-stays c store w x v v byte y apart;
+            unrecorded (registerWritten (w .chip) x value) (popped (w .chip .editing .undo)) (storePut (w .lent .store) x value) y
+            ∙ other-stays (w .chip) (w .lent .store) (s .widths) x value value byte y apart;
+      })
+
+  stays : Stays (w .chip) (v .chip)
+  unfolding x value known
+  stays =
+      let t : Stays (w .chip) (registerWritten (w .chip) x value) = write-stays (w .chip) x value (known .kept) in
+      rw after-is
+      (record {
+        lock = t .lock;
+        gate = t .gate;
+        crtc = t .crtc;
+        psg = t .psg;
+        raster = t .raster;
+        last-raster = t .last-raster;
+        channel = t .channel;
+      })
+
+  after-widths : Widths (v .chip)
+  after-widths = rw (fixed k .world-is) (call-widths w undo tt (s .widths))
+
+  others-read :
+      (y : Register) (bus : ℕ) → (y ≡ registerAt (m .address) → showsDcsr y ≡ true) →
+      registerRead (v .chip) (v .lent .store) y bus ≡ registerRead (w .chip) (w .lent .store) y bus
+  others-read y bus apart = go (showsDcsr y) refl
+    where
+      go : (t : Bool) → showsDcsr y ≡ t → registerRead (v .chip) (v .lent .store) y bus ≡ registerRead (w .chip) (w .lent .store) y bus
+      go true e = same-dcsr (v .chip) (w .chip) (v .lent .store) (w .lent .store) after-widths (s .widths) y bus (dcsr-stays _ _ stays) e
+      go false e =
+          let no-own : y ≡ registerAt (m .address) → ⊥ = λ q. let p : true ≡ false = sym (apart q) ∙ e in absurd (let z : _≡_ {A = ℕ} 0 1 = cc in omega arith) in
+          same-own (v .chip) (w .chip) (v .lent .store) (w .lent .store) after-widths (s .widths) y bus e (restored .others y no-own)
+
+  one-undo : TakesBack m w v
+  unfolding known
+  one-undo =
+      record {
+        restored = restored;
+        reads-own =
+            λ bus e.
+            same-own (v .chip) (m .before .chip) (v .lent .store) (m .before .lent .store) after-widths (known .widths)
+            (registerAt (m .address)) bus e (restored .own);
+        reads-others = others-read;
         lock = stays .lock;
         gate-array = stays .gate;
         crtc = stays .crtc;
@@ -231,14 +223,13 @@ module _ (c : Chip) (store places : List ℕ) (m : Moment) (ms : List Moment) (w
         raster = stays .raster;
         last-raster = stays .last-raster;
         channel = stays .channel;
-      })
+      }
 
--- each undo of a run takes back the write of the newest moment left
+-- each undo of a run takes back the write of the newest snapshot left
 pub takes-back :
-    {c : Chip} {store places store' : List ℕ} {m : Moment} {ms : List Moment} {r : Answered} → Story c store places (m ∷ ms) →
-    Undoes c store places store' r → r .answer ≡ done → TakesBack m c store (r .chip) store'
-takes-back {c} {store} {places} {m = m} {ms = ms} s u z =
-    one-undo c store places m ms (story-widths s) (each-known s .0) (tells s) u z
+    {start w v : World} {log : List Made} {m : Snapshot} {ms : List Snapshot} {r : Reply} → Trace start log w (m ∷ ms) →
+    Makes w undo r v → r .answer ≡ done → TakesBack m w v
+takes-back s k z = one-undo (knows s) k z
 
 -- with none left nothing is undone
 empty-record : (places : List ℕ) (next n : ℕ) → entries places next n ≡ [] → n ≡ 0
@@ -247,39 +238,30 @@ empty-record places next zero e = refl
 empty-record places next (suc n) e = absurd (let q : _≡_ {A = ℕ} 0 1 = cc in omega arith)
 
 pub none-left :
-    {c : Chip} {store places store' : List ℕ} {r : Answered} → Story c store places [] → Undoes c store places store' r →
-    r .answer ≡ done → ⊥
+    {start w v : World} {log : List Made} {r : Reply} → Trace start log w [] → Makes w undo r v → r .answer ≡ done → ⊥
 unfolding recordOf
-none-left {c} {store} {places} s u z =
-    undo-served c (length store) (sym (u .call .answer) ∙ z) .1
-    (empty-record places (c .editing .undo .next) (c .editing .undo .count) (tells s))
+none-left {w = w} s k z =
+    undo-served (w .chip) (length (w .lent .store)) (sym (served-answer k) ∙ z) .1
+    (empty-record (w .lent .places) (w .chip .editing .undo .next) (w .chip .editing .undo .count) (knows s .tells))
 
 -- with nothing in between, a kept write and its undo leave chip and store as they were, but for the record
 pub at-once :
-    {c : Chip} {store places store' places' store'' : List ℕ} {ms : List Moment} {r q : Answered} (a b : ℕ) → Story c store places ms →
-    a < 65536 → b < 256 → Writes c store places a b store' places' r → r .answer ≡ done → isKept (registerAt a) ≡ true →
-    Undoes (r .chip) store' places' store'' q → q .answer ≡ done →
-    (withUndo (q .chip) (c .editing .undo) ≡ c) × (store'' ≡ store)
+    {start w v u : World} {log : List Made} {ms : List Snapshot} {r q : Reply} (a b : ℕ) → Trace start log w ms →
+    a < 65536 → b < 256 → Makes w (write a b) r v → r .answer ≡ done → isKept (registerAt a) ≡ true →
+    Makes v undo q u → q .answer ≡ done →
+    (withUndo (u .chip) (w .chip .editing .undo) ≡ w .chip) × (u .lent .store ≡ w .lent .store)
 unfolding recordAfter
-at-once {c} {store} {places} {store'} {places'} {r = r} {q = q} a b s small below w z k u y =
-    let answer = sym (w .call .answer) ∙ z in
-    let undid-answer = sym (u .call .answer) ∙ y in
-    let chip-is : r .chip ≡ pageWritten c (registerAt a) b =
-    w .call .chip ∙ changed (writeAnswer c (length store) a) (pageWritten c (registerAt a) b) c answer in
-    let store-is : store' ≡ storeWritten store (registerAt a) b =
-    w .store-after ∙ changed (writeAnswer c (length store) a) (storeWritten store (registerAt a) b) store answer in
-    let record-is : recordIn (r .chip) places' ≡ take 256 (entryAt c store a ∷ recordIn c places) =
-    w .record-after ∙ changed (writeAnswer c (length store) a) (recordAfter c store places a) (recordIn c places) answer ∙ rw k in
-    let newest-is : newest (r .chip) places' ≡ entryAt c store a = ap head record-is in
-    let widths = story-widths s in
-    let value = contents-small c store widths (story-bytes s) (registerAt a) in
-    let there = served-register c (length store) a answer in
-    let undone-is : q .chip ≡ undone (pageWritten c (registerAt a) b) (entryAt c store a) =
-    u .call .chip
-    ∙ changed (undoAnswer (r .chip) (length store')) (undone (r .chip) (newest (r .chip) places')) (r .chip) undid-answer
-    ∙ rw (newest-is, chip-is) in (
-      rw undone-is (chip-again c store a b small below widths value there k),
-      u .store-after
-          ∙ changed (undoAnswer (r .chip) (length store')) (storeUndone store' (newest (r .chip) places')) store' undid-answer
-          ∙ rw (newest-is, store-is) (store-again c store a b small below widths value there k),
+at-once {w = w} {v = v} {u = u} a b s small below k z kept l y =
+    let answer = sym (served-answer k) ∙ z in
+    let record-is :
+    recordIn (v .chip) (v .lent .places) ≡ take 256 (entryAt (w .chip) (w .lent .store) a ∷ recordIn (w .chip) (w .lent .places)) =
+    written k .record-after ∙ simp (eq-eqb _ _ answer, kept) in
+    let newest-is : newest (v .chip) (v .lent .places) ≡ entryAt (w .chip) (w .lent .store) a = ap head record-is in
+    let after = served-is k z in
+    let back = served-is l y in
+    let widths = knows s .widths in
+    let value = contents-small (w .chip) (w .lent .store) widths (knows s .bytes) (registerAt a) in
+    let there = served-register (w .chip) (length (w .lent .store)) a answer in (
+      rw (back, newest-is, after) (chip-again (w .chip) (w .lent .store) a b small below widths value there kept),
+      rw (back, newest-is, after) (store-again (w .chip) (w .lent .store) a b small below widths value there kept),
     )

@@ -12,7 +12,7 @@ use Rattle.picture.specs.Pens.{widthOf}
 use Rattle.picture.specs.Screen.{characterAt, byteAddress}
 use Rattle.screen.specs.MainLine.{linePen, LinePens}
 use Rattle.screen.specs.Placing.{characterPen, Placed}
-use Rattle.words.proofs.Order.{either-side}
+use Rattle.common.proofs.Order.{either-side}
 
 pub placed-none : {f : ℕ → ℕ} {at : ℕ} {l : List ℕ} → Placed f at 0 l l
 placed-none = record { kept = λ p h. refl; put = λ j h. absurd (omega arith) }

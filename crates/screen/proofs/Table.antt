@@ -7,7 +7,7 @@ use native.Mathlib.Nat.{add-zero, zero-add, add-suc, suc-add, suc-mul, mul-le-mu
 use native.Mathlib.Omega.{arith}
 use lib.Dec.{T, eqb, eqb→eq}
 use lib.ListN.{length, getD}
-use Rattle.words.specs.Choice.{both, ofBool}
+use Rattle.common.specs.Choice.{both, ofBool}
 use Rattle.picture.specs.Pens.{widthOf, pen, penAt}
 use Rattle.screen.specs.Tables.{Table}
 use Rattle.screen.specs.Placing.{PenWidth, halfAt, characterPen}

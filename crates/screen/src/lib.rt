@@ -52,8 +52,8 @@ fn mode_1_pens(ram: &[u8], address: u16, row: u8) -> [u8; 656]
     let mut c = 0;
     while c < 40 {
         let at = character_byte(address, row, c);
-        let left = words::byte_at(ram, at);
-        let right = words::byte_at(ram, at + 1);
+        let left = common::byte_at(ram, at);
+        let right = common::byte_at(ram, at + 1);
         put_pens(&mut line, 16 + c * 16, &table, left, right, 2);
         c += 1;
     }
@@ -68,8 +68,8 @@ fn line_bytes(ram: &[u8], address: u16, row: u8) -> [u8; 80]
     let mut c = 0;
     while c < 40 {
         let at = character_byte(address, row, c);
-        bytes[2 * c] = words::byte_at(ram, at);
-        bytes[2 * c + 1] = words::byte_at(ram, at + 1);
+        bytes[2 * c] = common::byte_at(ram, at);
+        bytes[2 * c + 1] = common::byte_at(ram, at + 1);
         c += 1;
     }
     bytes

@@ -4,12 +4,11 @@ use mathlib.Core.List.{List}
 use Prim.Native.Nat.{ℕ, _+_, _-_, _*_, _%_}
 use lib.Dec.{eqb, ltb}
 use lib.ListN.{getD}
-use Rattle.words.specs.Choice.{if, both}
+use Rattle.common.specs.Choice.{if, both}
 use Rattle.words.specs.Words.{kindOf, low12, loopBit, intBit, stopBit}
 use Rattle.words.specs.declared.WordKind.{WordKind}
 use Rattle.words.specs.declared.WordKind.the-variants.{Load, Pause, Repeat, Control, Nothing}
 use Rattle.sound.specs.declared.Channel.{Channel}
-use Rattle.sound.specs.declared.Did.{Did}
 use Rattle.sound.specs.declared.Did.the-variants.{SatOut, Executed}
 use Rattle.sound.specs.declared.Turn.{Turn}
 
@@ -75,8 +74,8 @@ withFlags c enabled interrupt =
 
 -- a pause that is running, while the channel is enabled, counts a line; a count past the prescale starts again at 0 and takes 1 off
 -- the pause
-unfoldable pub counted : Channel → Channel
-counted c =
+unfoldable pub pauseCounted : Channel → Channel
+pauseCounted c =
     if (both (c .enabled) (ltb 0 (c .pause)))
     (if (ltb (c .prescale) (c .count + 1)) (withPause c (c .pause - 1) 0) (withPause c (c .pause) (c .count + 1)))
     c
@@ -123,11 +122,11 @@ executed Control n c = controlled n c
 executed Nothing n c = c
 
 -- what an active channel does with a word
-abbrev pub played : Channel → ℕ → Turn
-played c w = record { channel = executed (kindOf w) (low12 w) (fetched c); did = Executed (kindOf w) (low12 w) }
+abbrev pub wordPlayed : Channel → ℕ → Turn
+wordPlayed c w = record { channel = executed (kindOf w) (low12 w) (fetched c); did = Executed (kindOf w) (low12 w) }
 
 -- one channel's line: counting first, then, if active, one word
 unfoldable pub turnOf : List ℕ → Channel → Turn
 turnOf ram c =
-    if (active (counted c)) (played (counted c) (wordAt ram (counted c .address)))
-    (record { channel = counted c; did = SatOut })
+    if (active (pauseCounted c)) (wordPlayed (pauseCounted c) (wordAt ram (pauseCounted c .address)))
+    (record { channel = pauseCounted c; did = SatOut })

@@ -2,7 +2,7 @@
 use words::WordKind;
 ghost use mathlib.Core.Bool.{true};
 ghost use mathlib.Core.Path.{_≡_};
-ghost use Rattle.sound.specs.Channels.{wordAt, counted, fetched, looped, paused, repeated, controlled, executed, turnOf};
+ghost use Rattle.sound.specs.Channels.{wordAt, pauseCounted, fetched, looped, paused, repeated, controlled, executed, turnOf};
 ghost use Rattle.sound.specs.Line.{accessBy, accessOf, disturbance, ownCycles, soundLine};
 
 // One channel. `count` is the lines counted towards the next fall of `pause`, `counter` the passes
@@ -110,16 +110,16 @@ pub fn word_at(ram: &[u8], address: u16) -> u16
     ensures { λ r. ⌜ r ≡ wordAt (now (ram .entry)) address ⌝ }
 {
     let at = address as usize;
-    let low = words::byte_at(ram, at);
-    let high = words::byte_at(ram, (at + 1) % 65536);
+    let low = common::byte_at(ram, at);
+    let high = common::byte_at(ram, (at + 1) % 65536);
     high as u16 * 256 + low as u16
 }
 
 impl Channel {
     // One more line of the pause, if there is one.
-    fn counted(self) -> Channel
+    fn pause_counted(self) -> Channel
         requires { ⌜ self .enabled ≡ true ⌝ }
-        ensures { λ r. ⌜ r ≡ counted self ⌝ }
+        ensures { λ r. ⌜ r ≡ pauseCounted self ⌝ }
     {
         let mut c = self;
         if c.pause == 0 {
@@ -215,7 +215,7 @@ impl Channel {
                 did: Did::SatOut,
             };
         }
-        let c = self.counted();
+        let c = self.pause_counted();
         if c.pause != 0 {
             return Turn {
                 channel: c,

@@ -1,5 +1,5 @@
 -- What is written opens with the same comment and records; a file that opens is the file of its own comment and records.
-use borrow.Author.Tests.{le-leb, leb-true, ltb-true, eqb-true}
+use borrow.Author.Tests.{le-leb, leb-true, lt-ltb, ltb-true, eq-eqb, eqb-true}
 use native.Mathlib.Omega.{arith}
 use mathlib.Core.Path.{_≡_, refl, sym, _∙_, ap}
 use mathlib.Core.Bool.{Bool, true, false}
@@ -7,14 +7,16 @@ use mathlib.Core.List.{List, [], _∷_, _++_, map, append-assoc}
 use Prim.Native.Nat.{ℕ, zero, suc, _+_, _-_, _*_, _^_, _<_, _≤_}
 use lib.Dec.{leb, ltb, eqb}
 use lib.ListN.{length, take, drop, length-append, length-drop, take-append-drop}
-use lib.Seq.{sets, sets-eq, drop-at, take-add, take-append-seam, drop-append-seam, length-take-le}
+use lib.Seq.{sets, drop-at, take-add, take-append-seam, drop-append-seam, length-take-le}
+use Rattle.common.proofs.Tests.{both-true}
+use Rattle.common.proofs.Lists.{front}
 use Rattle.take.specs.Bytes.{AreBytes, bytesOf, numberOf}
 use Rattle.take.specs.Record.{AllWithin, recordBytes, packed, unpacked, firstBad}
 use Rattle.take.specs.File.{letters, recordsBytes, trailer, fileOf, Writable}
 use Rattle.take.specs.Write.{roomFor, writeAnswer, Writing}
 use Rattle.take.specs.Open.{trailerOf, countOf, offsetOf, hasTrailer, meets, recordsFrom, recordsOf, openAnswer, commentOf, Opens}
+use Rattle.take.specs.Contract.{WritesTake}
 use Rattle.take.specs.declared.Record.{Record}
-use Rattle.take.proofs.Tests.{both-true}
 use Rattle.take.proofs.Numbers.{number-exact, number-below, bytes-back, take-below, drop-below}
 use Rattle.take.proofs.Records.{within-unpacked, unpacked-packed, bytes-unpacked}
 use Rattle.take.proofs.Storing.{length-records, length-file}
@@ -157,11 +159,6 @@ all-within : (ns : List ℕ) → AllWithin (map unpacked ns)
 all-within [] = tt
 all-within (n ∷ ns) = (within-unpacked n, all-within ns)
 
-front : (l bs : List ℕ) → length bs ≤ length l → take (length bs) (sets l 0 bs) ≡ bs
-front l bs h =
-    let e : sets l 0 bs ≡ bs ++ drop (0 + length bs) l = sets-eq bs l 0 (omega arith) in
-    rw e (take-append-seam bs (drop (0 + length bs) l))
-
 module _ (comment ns before : List ℕ) where
   abbrev rs : List Record
   rs = map unpacked ns
@@ -172,16 +169,35 @@ module _ (comment ns before : List ℕ) where
       let u = both-true (ltb (length rs) (2 ^ 32)) _ (t .1) in
       (leb-true _ _ (t .0), record { count = ltb-true _ _ (u .0); offset = ltb-true _ _ (u .1); each = all-within ns })
 
-  pub served-opens : {after : List ℕ} {size bad : ℕ} → Writing comment ns before after 0 size bad → Opens (take size after) comment rs
+  served-opens : {after : List ℕ} {answer size bad : ℕ} → Writing comment ns before after answer size bad → answer ≡ 0 → Opens (take size after) comment rs
   unfolding writeAnswer
-  served-opens {after} {size} w = go (eqb (firstBad rs) 0) refl (roomFor comment rs (length before)) refl
+  served-opens {after} {size = size} w d = go (eqb (firstBad rs) 0) refl (roomFor comment rs (length before)) refl
     where
       go : (p : Bool) → eqb (firstBad rs) 0 ≡ p → (q : Bool) → roomFor comment rs (length before) ≡ q → Opens (take size after) comment rs
-      go false e q f = absurd (let z = simp e at (w .answered) in omega arith)
-      go true e false f = absurd (let z = simp (e, f) at (w .answered) in omega arith)
+      go false e q f = absurd (let z = simp e at (w .answered) in omega (arith, d))
+      go true e false f = absurd (let z = simp (e, f) at (w .answered) in omega (arith, d))
       go true e true f =
           let r = room-is f in
           let s : size ≡ length (fileOf comment rs) = simp (e, f) at (w .sized) in
           let a : after ≡ sets before 0 (fileOf comment rs) = simp (e, f) at (w .buffer) in
-          let g : take size after ≡ fileOf comment rs = rw (s, a) (front before (fileOf comment rs) (r .0)) in
+          let g : take size after ≡ fileOf comment rs = rw (s, a) (front (fileOf comment rs) before (r .0)) in
           rw g (written-opens comment rs (r .1) (eqb-true (firstBad rs) 0 e))
+
+pub written-back :
+    {comment ns before after : List ℕ} {answer size bad : ℕ} → Writing comment ns before after answer size bad →
+    WritesTake comment ns before after answer size bad
+written-back {comment} {ns} {before} w = record { writing = w; opens = served-opens comment ns before w }
+
+-- and this is about something: with none bad, and a count and an offset that fit, records and comment are written into every buffer
+-- with the room
+pub writes :
+    (comment ns before : List ℕ) → Writable comment (map unpacked ns) → firstBad (map unpacked ns) ≡ 0 →
+    length (fileOf comment (map unpacked ns)) ≤ length before →
+    Writing comment ns before (sets before 0 (fileOf comment (map unpacked ns))) 0 (length (fileOf comment (map unpacked ns))) 0
+unfolding writeAnswer
+writes comment ns before w z h =
+    let a = eq-eqb (firstBad (map unpacked ns)) 0 z in
+    let b = le-leb (length (fileOf comment (map unpacked ns))) (length before) h in
+    let c = lt-ltb (length (map unpacked ns)) (2 ^ 32) (w .count) in
+    let o = lt-ltb (length comment) (2 ^ 32) (w .offset) in
+    record { answered = simp (a, b, c, o); sized = simp (a, b, c, o); badNumber = sym z; buffer = simp (a, b, c, o) }

@@ -7,10 +7,9 @@ use mathlib.Core.Path.{_≡_, refl}
 use mathlib.Core.Bool.{Bool, true, false}
 use mathlib.Core.List.{List, [], _∷_, map}
 use Prim.Native.Nat.{ℕ, suc, _+_, _-_, _*_, _<_, _≤_}
-use lib.ListN.{length, getD, take, drop}
+use lib.ListN.{length, getD, drop}
 use lib.Seq.{drop-cons, drop-drop}
-use Rattle.take.specs.Bytes.{numberOf}
-use Rattle.take.specs.Record.{unpacked, knownKind, hasAddress, hasValue, absent, bad, firstBad, firstBadAfter}
+use Rattle.take.specs.Record.{unpacked, recordIn, knownKind, hasAddress, hasValue, absent, bad, firstBad, firstBadAfter}
 use Rattle.take.specs.Open.{recordsFrom}
 use Rattle.take.specs.declared.Record.{Record}
 
@@ -71,7 +70,7 @@ module _ (file : List ℕ) (offset count : ℕ) where
   records-none = simp (sub-zero, add-zero)
 
   pub records-from :
-      (i : ℕ) {r : Record} → i < count → r ≡ unpacked (numberOf (take 8 (drop (offset + 8 * i) file))) →
+      (i : ℕ) {r : Record} → i < count → r ≡ recordIn (drop (offset + 8 * i) file) →
       recordsAfter i ≡ r ∷ recordsAfter (i + 1)
   records-from i h q =
       let e : count - i ≡ suc (count - (i + 1)) = omega arith in

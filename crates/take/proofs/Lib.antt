@@ -1,5 +1,4 @@
 -- Laws of takes: numbers as bytes, records, the rules, what is stored and read, and files.
-pub mod Tests
 pub mod Numbers
 pub mod Records
 pub mod FirstBad

@@ -1,26 +1,26 @@
 -- What opening gives by the trailer and the records, the comment, and the record of a number.
-use borrow.Author.Tests.{ne-eqb, eqb-true}
+use borrow.Author.Tests.{le-leb, lt-leb, ne-eqb, eqb-true}
 use native.Mathlib.Omega.{arith}
 use mathlib.Core.Path.{_≡_, refl, sym, _∙_, ap}
 use mathlib.Core.Bool.{Bool, true, false}
 use mathlib.Core.List.{List}
 use Prim.Native.Nat.{ℕ, zero, suc, _+_, _-_, _*_, _<_, _≤_}
 use lib.Dec.{eqb}
-use lib.ListN.{length, take, drop}
+use lib.ListN.{length, getD, take, drop}
 use lib.Seq.{drop-drop}
-use Rattle.take.specs.Bytes.{numberOf}
-use Rattle.take.specs.Record.{unpacked, firstBad}
-use Rattle.take.specs.Open.{offsetOf, recordsFrom, recordsOf, openAnswer, Opening, commentOf, nth, recordAt}
-use Rattle.take.specs.Parts.{trailerAnswer, Ending}
+use Rattle.take.specs.Record.{recordIn, firstBad}
+use Rattle.take.specs.declared.Record.{Record}
+use Rattle.take.specs.Open.{countOf, offsetOf, recordsFrom, recordsOf, trailerAnswer, openAnswer, Opening, commentOf, recordAnswer, noRecord, ReadsRecord}
+use Rattle.take.specs.Parts.{Ending}
 use Rattle.take.proofs.Trailers.{Met, by-trailer, done-met}
 
 -- opening, by what the trailer answers
 pub refused : {file : List ℕ} {answer count offset : ℕ} → Ending file answer count offset → (answer ≡ 0 → ⊥) → Opening file answer 0 0 0
-unfolding trailerAnswer openAnswer
+unfolding openAnswer
 refused {file} e n =
     by-trailer file
-    (λ h. record { answered = e .answered ∙ simp h; firstBad = simp h; counted = simp h; placed = simp h })
-    (λ h m. record { answered = e .answered ∙ simp (h, m); firstBad = simp (h, m); counted = simp (h, m); placed = simp (h, m) })
+    (λ h. record { answered = e .answered ∙ simp h; badNumber = simp h; counted = simp h; placed = simp h })
+    (λ h m. record { answered = e .answered ∙ simp (h, m); badNumber = simp (h, m); counted = simp (h, m); placed = simp (h, m) })
     (λ m. absurd (n (e .answered ∙ simp (m .has, m .meet))))
 
 module _ {file : List ℕ} {count offset bad : ℕ} (m : Met file count offset) (b : bad ≡ firstBad (recordsFrom count (drop offset file))) where
@@ -34,7 +34,7 @@ module _ {file : List ℕ} {count offset bad : ℕ} (m : Met file count offset) 
       let t : eqb bad 0 ≡ false = ne-eqb bad 0 n in
       record {
         answered = simp (m .has, m .meet, first, t);
-        firstBad = simp (m .has, m .meet, first, t);
+        badNumber = simp (m .has, m .meet, first, t);
         counted = simp (m .has, m .meet, first, t);
         placed = simp (m .has, m .meet, first, t);
       }
@@ -44,7 +44,7 @@ module _ {file : List ℕ} {count offset bad : ℕ} (m : Met file count offset) 
   opened z =
       record {
         answered = simp (m .has, m .meet, first, z);
-        firstBad = simp (m .has, m .meet, first, z);
+        badNumber = simp (m .has, m .meet, first, z);
         counted = simp (m .has, m .meet, first, z) (m .counted);
         placed = simp (m .has, m .meet, first, z) (m .placed);
       }
@@ -65,41 +65,43 @@ module _ {file : List ℕ} {answer bad count offset : ℕ} (o : Opening file ans
   unfolding commentOf
   comment-is = by-answer (λ d e. simp (d, e)) (λ d e. simp (d, e))
 
--- the record of a number
-nth-from : (i n : ℕ) (bs : List ℕ) → i < n → nth (suc i) (recordsFrom n bs) ≡ unpacked (numberOf (take 8 (drop (8 * i) bs)))
-nth-from i zero bs h = absurd (omega arith)
-nth-from zero (suc n) bs h = refl
-nth-from (suc i) (suc n) bs h =
+-- the record of a number: refused, it is all 0
+pub refused-so :
+    {file : List ℕ} {n a b : ℕ} {r : Record} → (b ≡ a) × (r ≡ noRecord) → ReadsRecord file n a noRecord → ReadsRecord file n b r
+refused-so p q = record { answered = p .0 ∙ q .answered; read = p .1 ∙ q .read }
+
+module _ {file : List ℕ} {answer count offset : ℕ} (e : Ending file answer count offset) where
+  pub none-read : (answer ≡ 0 → ⊥) → (n : ℕ) → ReadsRecord file n answer noRecord
+  unfolding recordAnswer
+  none-read z n =
+      let t : eqb (trailerAnswer file) 0 ≡ false = ne-eqb (trailerAnswer file) 0 (λ d. z (e .answered ∙ d)) in
+      record { answered = e .answered ∙ simp t; read = simp t }
+
+records-at : (i n : ℕ) (bs : List ℕ) → i < n → getD (recordsFrom n bs) i noRecord ≡ recordIn (drop (8 * i) bs)
+records-at i zero bs h = absurd (omega arith)
+records-at zero (suc n) bs h = refl
+records-at (suc i) (suc n) bs h =
     let e : 8 + 8 * i ≡ 8 * suc i = omega arith in
-    nth-from i n (drop 8 bs) (omega arith) ∙ ap (λ l. unpacked (numberOf (take 8 l))) (drop-drop (8 * i) 8 bs ∙ ap (λ k. drop k bs) e)
+    records-at i n (drop 8 bs) (omega arith) ∙ ap recordIn (drop-drop (8 * i) 8 bs ∙ ap (λ k. drop k bs) e)
 
-nth-past : (i n : ℕ) (bs : List ℕ) → n ≤ i → nth (suc i) (recordsFrom n bs) ≡ unpacked 0
-nth-past i zero bs h = refl
-nth-past zero (suc n) bs h = absurd (omega arith)
-nth-past (suc i) (suc n) bs h = nth-past i n (drop 8 bs) (omega arith)
+module _ {file : List ℕ} {count offset : ℕ} (m : Met file count offset) (n : ℕ) where
+  pub number-0 : n ≡ 0 → ReadsRecord file n 3 noRecord
+  unfolding recordAnswer
+  number-0 z = let t = lt-leb 1 n (omega arith) in record { answered = simp (m .has, m .meet, t); read = simp (m .has, m .meet, t) }
 
-pub no-records : {file : List ℕ} {answer count offset : ℕ} → Ending file answer count offset → (answer ≡ 0 → ⊥) → (n : ℕ) → recordAt file n ≡ unpacked 0
-unfolding trailerAnswer recordAt
-no-records {file} e z n =
-    by-trailer file (λ h. simp h) (λ h m. simp (h, m)) (λ m. absurd (z (e .answered ∙ simp (m .has, m .meet))))
+  pub number-past : count < n → ReadsRecord file n 3 noRecord
+  unfolding recordAnswer
+  number-past h =
+      let a = le-leb 1 n (omega arith) in
+      let b = lt-leb n (countOf file) (omega (arith, m .counted)) in
+      record { answered = simp (m .has, m .meet, a, b); read = simp (m .has, m .meet, a, b) }
 
-module _ {file : List ℕ} {count offset : ℕ} (m : Met file count offset) where
-  met-records : (n : ℕ) → recordAt file n ≡ nth n (recordsFrom count (drop offset file))
-  unfolding recordAt recordsOf
-  met-records n = simp (m .has, m .meet, m .counted, m .placed)
-
-  pub record-zero : (n : ℕ) → n ≡ 0 → recordAt file n ≡ unpacked 0
-  record-zero n e = met-records n ∙ rw e
-
-  pub record-past : (n : ℕ) → count < n → recordAt file n ≡ unpacked 0
-  record-past n h =
-      let e : n ≡ suc (n - 1) = omega arith in
-      met-records n ∙ rw e (nth-past (n - 1) count (drop offset file) (omega arith))
-
-  pub record-is :
-      (n : ℕ) → (n ≡ 0 → ⊥) → n ≤ count → recordAt file n ≡ unpacked (numberOf (take 8 (drop (offset + 8 * (n - 1)) file)))
-  record-is n z h =
-      let e : n ≡ suc (n - 1) = omega arith in
-      met-records n ∙ ap (λ k. nth k (recordsFrom count (drop offset file))) e
-      ∙ nth-from (n - 1) count (drop offset file) (omega arith)
-      ∙ ap (λ l. unpacked (numberOf (take 8 l))) (drop-drop (8 * (n - 1)) offset file)
+  pub one-read : {r : Record} → (n ≡ 0 → ⊥) → n ≤ count → r ≡ recordIn (drop (offset + 8 * (n - 1)) file) → ReadsRecord file n 0 r
+  unfolding recordAnswer recordsOf
+  one-read {r} z h e =
+      let a = le-leb 1 n (omega arith) in
+      let b = le-leb n (countOf file) (omega (arith, m .counted)) in
+      let q : r ≡ getD (recordsFrom (countOf file) (drop (offsetOf file) file)) (n - 1) noRecord =
+      e ∙ ap recordIn (sym (drop-drop (8 * (n - 1)) offset file)) ∙ sym (records-at (n - 1) count (drop offset file) (omega arith))
+      ∙ rw (m .counted, m .placed) in
+      record { answered = simp (m .has, m .meet, a, b); read = simp (m .has, m .meet, a, b) q }

@@ -6,7 +6,7 @@ use mathlib.Core.List.{List, _++_}
 use Prim.Native.Nat.{ℕ, _+_, _*_, _/_, _%_, _^_, _<_}
 use lib.ListN.{take, drop}
 use Rattle.take.specs.Bytes.{AreBytes, bytesOf, numberOf}
-use Rattle.take.specs.Record.{Within, recordBytes, packed, unpacked}
+use Rattle.take.specs.Record.{Within, recordBytes, packed, unpacked, recordIn}
 use Rattle.take.specs.declared.Record.{Record}
 use Rattle.take.proofs.Numbers.{bytes-below, append-below, number-exact, low, high, bytes-number, number-from}
 
@@ -75,7 +75,7 @@ pub record-parts :
     r .kind ≡ numberOf (take 1 (drop (at + 4) file)) →
     r .address ≡ numberOf (take 2 (drop (at + 5) file)) →
     r .value ≡ numberOf (take 1 (drop (at + 7) file)) →
-    r ≡ unpacked (numberOf (take 8 (drop at file)))
+    r ≡ recordIn (drop at file)
 record-parts file at r w line kind address value =
     let five : at + 4 + 1 ≡ at + 5 = omega arith in
     let seven : at + 5 + 2 ≡ at + 7 = omega arith in

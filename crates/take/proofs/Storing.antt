@@ -1,17 +1,17 @@
--- What is stored in a buffer: a number, a comment, records, a trailer, a file.
+-- What is stored in a buffer: a number, records, a trailer, a file.
 use native.Mathlib.Nat.{add-zero, sub-zero}
-use native.Mathlib.Numerals.{add-one}
 use native.Mathlib.Omega.{arith}
 use mathlib.Core.Path.{_≡_, refl, sym, _∙_, ap}
 use mathlib.Core.List.{List, [], _∷_, _++_, map}
 use Prim.Native.Nat.{ℕ, suc, _+_, _-_, _*_, _/_, _%_, _^_, _<_, _≤_}
 use lib.ListN.{length, getD, set, drop, length-append, length-map, drop-of-length-le}
-use lib.Seq.{sets, drop-cons}
-use Rattle.words.proofs.Lists.{sets-append}
+use lib.Seq.{sets}
+use Rattle.common.specs.Storing.{Puts}
+use Rattle.common.proofs.Lists.{sets-append}
+use Rattle.common.proofs.Storing.{then-put}
 use Rattle.take.specs.Bytes.{bytesOf}
 use Rattle.take.specs.Record.{unpacked}
 use Rattle.take.specs.File.{letters, recordsBytes, trailer, fileOf}
-use Rattle.take.specs.Parts.{Puts}
 use Rattle.take.specs.declared.Record.{Record}
 use Rattle.take.proofs.Records.{bytes-unpacked}
 use Rattle.take.proofs.FirstBad.{numbers-from}
@@ -32,14 +32,6 @@ module _ (all out : List ℕ) (at width i rest : ℕ) (h : sets out (at + i) (by
 pub number-none : (l : List ℕ) (at width n : ℕ) → sets l (at + 0) (bytesOf (width - 0) n) ≡ sets l at (bytesOf width n)
 number-none l at width n = rw (add-zero, sub-zero)
 
--- bytes that are copied from the front
-module _ (all out bs : List ℕ) (i : ℕ) (h : sets out i (drop i bs) ≡ all) where
-  pub copy-more : i < length bs → sets (set out i (getD bs i 0)) (i + 1) (drop (i + 1) bs) ≡ all
-  copy-more l = rw add-one (rw (drop-cons bs i 0) at h)
-
-  pub copy-all : length bs ≤ i → out ≡ all
-  copy-all l = rw (drop-of-length-le bs l) at h
-
 -- records
 pub length-records : (rs : List Record) → length (recordsBytes rs) ≡ 8 * length rs
 length-records [] = refl
@@ -57,18 +49,6 @@ module _ (all out ns : List ℕ) (at i : ℕ) (h : sets out at (recordsBytes (ma
 
   pub records-all : length ns ≤ i → out ≡ all
   records-all l = rw (drop-of-length-le ns l) at h
-
--- bytes after bytes
-pub both-put :
-    {at next last : ℕ} {before between after bytes more : List ℕ} →
-    Puts before at bytes between next →
-    Puts between next more after last →
-    Puts before at (bytes ++ more) after last
-both-put {at} {before = l} {bytes = a} {more = b} p q =
-    record {
-      stored = q .stored ∙ rw (p .stored, p .place) (sets-append a b l at);
-      place = simp length-append (omega (arith, p .place, q .place));
-    }
 
 -- a trailer: its two numbers, and the letters as a third
 pub trailer-put :
@@ -99,7 +79,7 @@ unfolding fileOf
 file-put comment ns {offset = offset} p q r =
     let n : length ns ≡ length (map unpacked ns) = sym (length-map ns unpacked) in
     let o : offset ≡ length comment = omega (arith, p .place) in
-    both-put (both-put p q) (rw (n, o) at r)
+    then-put (then-put p q) (rw (n, o) at r)
 
 pub length-file : (comment : List ℕ) (rs : List Record) → length (fileOf comment rs) ≡ length comment + 8 * length rs + 12
 unfolding fileOf

@@ -3,28 +3,20 @@ use borrow.Author.Tests.{le-leb, lt-leb, leb-true, eq-eqb, ne-eqb, eqb-true, eqb
 use native.Mathlib.Omega.{arith}
 use mathlib.Core.Path.{_≡_, refl, sym, _∙_, ap}
 use mathlib.Core.Bool.{Bool, true, false}
-use mathlib.Core.List.{List, [], _∷_}
+use mathlib.Core.List.{List}
 use Prim.Native.Nat.{ℕ, _+_, _-_, _*_, _<_, _≤_}
 use lib.Dec.{leb, eqb}
 use lib.ListN.{length, take, drop, length-drop}
 use lib.Seq.{take-all, drop-drop}
-use Rattle.words.specs.Choice.{both}
+use Rattle.common.specs.Choice.{both}
+use Rattle.common.specs.Lists.{begins}
+use Rattle.common.proofs.Tests.{both-true}
+use Rattle.common.proofs.Begins.{begins-all}
 use Rattle.take.specs.Bytes.{AreBytes, bytesOf, numberOf}
 use Rattle.take.specs.File.{letters}
-use Rattle.take.specs.Open.{trailerOf, countOf, offsetOf, same, hasTrailer, meets, openAnswer}
-use Rattle.take.specs.Parts.{trailerAnswer, Ending}
-use Rattle.take.proofs.Tests.{both-true}
+use Rattle.take.specs.Open.{trailerOf, countOf, offsetOf, hasTrailer, meets, openAnswer}
+use Rattle.take.specs.Parts.{Ending}
 use Rattle.take.proofs.Numbers.{bytes-number, drop-below}
-
-pub same-lists : (a b : List ℕ) → same a b ≡ true → a ≡ b
-same-lists [] [] e = refl
-same-lists [] (y ∷ b) e = absurd (let z : _≡_ {A = ℕ} 0 1 = cc in omega arith)
-same-lists (x ∷ a) [] e = absurd (let z : _≡_ {A = ℕ} 0 1 = cc in omega arith)
-same-lists (x ∷ a) (y ∷ b) e =
-    let t = both-true (eqb x y) (same a b) e in
-    let p : x ≡ y = eqb-true x y (t .0) in
-    let q : a ≡ b = same-lists a b (t .1) in
-    cc
 
 -- the letters, read as one number
 module _ (file : List ℕ) where
@@ -38,12 +30,14 @@ module _ (file : List ℕ) where
 
   pub last-letters : hasTrailer file ≡ true → drop 8 (trailerOf file) ≡ letters
   unfolding hasTrailer
-  last-letters e = same-lists (drop 8 (trailerOf file)) letters (both-true (leb 12 (length file)) _ e .1)
+  last-letters e =
+      let h : length (drop 8 (trailerOf file)) ≤ 4 = simp length-drop (omega (arith, long e)) in
+      begins-all letters (drop 8 (trailerOf file)) h (both-true (leb 12 (length file)) _ e .1)
 
   pub tested :
       {n : ℕ} → AreBytes file → 12 ≤ length file → n ≡ numberOf (take 4 (drop (length file - 4) file)) → eqb n (numberOf letters) ≡ hasTrailer file
   unfolding hasTrailer
-  tested {n} b h e = go (eqb n (numberOf letters)) refl (same last letters) refl
+  tested {n} b h e = go (eqb n (numberOf letters)) refl (begins letters last) refl
     where
       last : List ℕ
       last = drop 8 (trailerOf file)
@@ -54,17 +48,19 @@ module _ (file : List ℕ) where
           let c : length (drop (length file - 4) file) ≤ 4 = simp length-drop (omega arith) in
           take-all 4 (drop (length file - 4) file) c ∙ ap (λ k. drop k file) (sym a) ∙ sym (drop-drop 8 (length file - 12) file)
 
-      go : (p : Bool) → eqb n (numberOf letters) ≡ p → (q : Bool) → same last letters ≡ q → eqb n (numberOf letters) ≡ both (leb 12 (length file)) (same last letters)
+      four : length last ≡ 4
+      four = simp length-drop (omega arith)
+
+      go : (p : Bool) → eqb n (numberOf letters) ≡ p → (q : Bool) → begins letters last ≡ q → eqb n (numberOf letters) ≡ both (leb 12 (length file)) (begins letters last)
       go true f true g = rw (f, g, le-leb 12 (length file) h)
       go false f false g = rw (f, g, le-leb 12 (length file) h)
       go true f false g =
-          let four : length last ≡ 4 = simp length-drop (omega arith) in
           let n-is : numberOf last ≡ numberOf letters = ap numberOf (sym is-last) ∙ sym e ∙ eqb-true n (numberOf letters) f in
           let back : bytesOf (length last) (numberOf last) ≡ last = bytes-number last (drop-below 8 (trailerOf file) (drop-below (length file - 12) file b)) in
           let is : last ≡ letters = sym back ∙ rw (four, n-is) in
           absurd (let z : true ≡ false = rw is at g in let y : _≡_ {A = ℕ} 0 1 = cc in omega arith)
       go false f true g =
-          absurd (eqb-false n (numberOf letters) f (e ∙ ap numberOf (is-last ∙ same-lists last letters g)))
+          absurd (eqb-false n (numberOf letters) f (e ∙ ap numberOf (is-last ∙ begins-all letters last (omega (arith, four)) g)))
 
 -- a trailer that is met, and its numbers
 pub record Met (file : List ℕ) (count offset : ℕ) : Type 0 where
@@ -79,16 +75,13 @@ offset-after file e = e ∙ ap (λ l. numberOf (take 4 l)) (sym (drop-drop 4 (le
 
 module _ (file : List ℕ) where
   pub no-trailer : hasTrailer file ≡ false → Ending file 11 0 0
-  unfolding trailerAnswer
   no-trailer e = record { answered = simp e; counted = simp e; placed = simp e }
 
   module _ (h : hasTrailer file ≡ true) where
     pub not-met : meets file ≡ false → Ending file 12 0 0
-    unfolding trailerAnswer
     not-met e = record { answered = simp (h, e); counted = simp (h, e); placed = simp (h, e) }
 
     pub met : {count offset : ℕ} → meets file ≡ true → count ≡ countOf file → offset ≡ offsetOf file → Ending file 0 count offset
-    unfolding trailerAnswer
     met e p q = record { answered = simp (h, e); counted = simp (h, e) p; placed = simp (h, e) q }
 
   module _ {count offset : ℕ} (p : count ≡ countOf file) (q : offset ≡ offsetOf file) where
@@ -119,7 +112,6 @@ by-trailer {P} file none other met = go (hasTrailer file) (meets file) refl refl
 
 -- an answer of 0 is that of a trailer that is met
 pub ending-met : {file : List ℕ} {answer count offset : ℕ} → Ending file answer count offset → answer ≡ 0 → Met file count offset
-unfolding trailerAnswer
 ending-met {file} {answer} {count} {offset} e z =
     by-trailer file
     (λ h. absurd (let q = simp h at (e .answered) in omega arith))

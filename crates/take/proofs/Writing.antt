@@ -7,13 +7,14 @@ use mathlib.Core.List.{List, map}
 use Prim.Native.Nat.{ℕ, _+_, _*_, _≤_}
 use lib.Dec.{leb, eqb}
 use lib.ListN.{length, length-map}
+use Rattle.common.specs.Storing.{Puts}
+use Rattle.common.proofs.Tests.{both-true}
 use Rattle.take.specs.Record.{unpacked, firstBad}
 use Rattle.take.specs.File.{fileOf}
 use Rattle.take.specs.Write.{roomFor, writeAnswer, Writing}
-use Rattle.take.specs.Parts.{Puts, fitting, measuredAnswer}
+use Rattle.take.specs.Parts.{fitting, measuredAnswer}
 use Rattle.take.specs.declared.Record.{Record}
 use Rattle.take.proofs.Storing.{length-file}
-use Rattle.take.proofs.Tests.{both-true}
 
 -- what is written has the room
 pub answer-room : {answer : ℕ} (bad offset count room : ℕ) → answer ≡ measuredAnswer bad offset count room → answer ≡ 0 → offset + 8 * count + 12 ≤ room
@@ -43,11 +44,11 @@ module _ (comment ns before : List ℕ) where
     pub not-written : (answer ≡ 0 → ⊥) → Writing comment ns before before answer 0 bad
     not-written n =
         let t : eqb (writeAnswer comment rs (length before)) 0 ≡ false = rw (← answer-is) (ne-eqb answer 0 n) in
-        record { answered = answer-is; sized = simp t; firstBad = b; buffer = simp t }
+        record { answered = answer-is; sized = simp t; badNumber = b; buffer = simp t }
 
     pub written :
         {after : List ℕ} {size : ℕ} → answer ≡ 0 → Puts before 0 (fileOf comment rs) after size → Writing comment ns before after answer size bad
     written {size = size} z p =
         let t : eqb (writeAnswer comment rs (length before)) 0 ≡ true = rw (← answer-is) (eq-eqb answer 0 z) in
         let s : size ≡ length (fileOf comment rs) = omega (arith, p .place) in
-        record { answered = answer-is; sized = simp t s; firstBad = b; buffer = simp t (p .stored) }
+        record { answered = answer-is; sized = simp t s; badNumber = b; buffer = simp t (p .stored) }

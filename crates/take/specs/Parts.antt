@@ -4,16 +4,9 @@ use mathlib.Core.Bool.{Bool}
 use mathlib.Core.List.{List}
 use Prim.Native.Nat.{ℕ, _+_, _*_, _^_}
 use lib.Dec.{eqb, leb, ltb}
-use lib.ListN.{length}
-use lib.Seq.{sets}
-use Rattle.words.specs.Choice.{if, both}
-use Rattle.words.specs.Answers.{done, noTrailer, notMet, badRecord, noRoom, served}
-use Rattle.take.specs.Open.{hasTrailer, meets, countOf, offsetOf}
-
--- bytes stored from a place on, and the place after them
-pub record Puts (before : List ℕ) (at : ℕ) (bytes after : List ℕ) (next : ℕ) : Type 0 where
-  pub stored : after ≡ sets before at bytes
-  pub place : next ≡ at + length bytes
+use Rattle.common.specs.Choice.{if, both}
+use Rattle.common.specs.Answers.{done, badRecord, noRoom, served}
+use Rattle.take.specs.Open.{trailerAnswer, countOf, offsetOf}
 
 -- a file with so many records from an offset on has the room, and its count and offset fit their 4 bytes
 unfoldable pub fitting : ℕ → ℕ → ℕ → Bool
@@ -23,11 +16,7 @@ fitting offset count room = both (leb (offset + 8 * count + 12) room) (both (ltb
 unfoldable pub measuredAnswer : ℕ → ℕ → ℕ → ℕ → ℕ
 measuredAnswer bad offset count room = if (eqb bad 0) (if (fitting offset count room) done noRoom) badRecord
 
--- the answer by the trailer alone
-unfoldable pub trailerAnswer : List ℕ → ℕ
-trailerAnswer file = if (hasTrailer file) (if (meets file) done notMet) noTrailer
-
--- with the count and the offset of a trailer that is met, else 0
+-- the answer by the trailer alone, with the count and the offset of a trailer that is met, else 0
 pub record Ending (file : List ℕ) (answer count offset : ℕ) : Type 0 where
   pub answered : answer ≡ trailerAnswer file
   pub counted : count ≡ served (trailerAnswer file) (countOf file) 0

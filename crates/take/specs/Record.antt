@@ -3,7 +3,8 @@ use mathlib.Core.Bool.{Bool, not}
 use mathlib.Core.List.{List, [], _∷_, _++_}
 use Prim.Native.Nat.{ℕ, suc, _/_, _%_, _^_, _<_}
 use lib.Dec.{eqb, leb}
-use Rattle.words.specs.Choice.{if, both, either}
+use lib.ListN.{take}
+use Rattle.common.specs.Choice.{if, both, either}
 use Rattle.take.specs.Bytes.{bytesOf, numberOf}
 use Rattle.take.specs.declared.Record.{Record}
 
@@ -34,6 +35,10 @@ unpacked n =
       address = n / 2 ^ 40 % 2 ^ 16;
       value = n / 2 ^ 56 % 2 ^ 8;
     }
+
+-- the record in the first 8 of some bytes
+abbrev pub recordIn : List ℕ → Record
+recordIn bytes = unpacked (numberOf (take 8 bytes))
 
 -- the kinds are 1 to 6: BCxx, BDxx, 7Fxx and page write, acknowledge, undo
 abbrev pub knownKind : ℕ → Bool

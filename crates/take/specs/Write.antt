@@ -6,8 +6,8 @@ use Prim.Native.Nat.{ℕ, _^_}
 use lib.Dec.{eqb, ltb, leb}
 use lib.ListN.{length}
 use lib.Seq.{sets}
-use Rattle.words.specs.Choice.{if, both}
-use Rattle.words.specs.Answers.{done, badRecord, noRoom, served}
+use Rattle.common.specs.Choice.{if, both}
+use Rattle.common.specs.Answers.{done, badRecord, noRoom, served}
 use Rattle.take.specs.Record.{unpacked, firstBad}
 use Rattle.take.specs.File.{fileOf}
 use Rattle.take.specs.declared.Record.{Record}
@@ -28,6 +28,6 @@ writeAnswer comment rs room =
 pub record Writing (comment numbers before after : List ℕ) (answer size bad : ℕ) : Type 0 where
   pub answered : answer ≡ writeAnswer comment (map unpacked numbers) (length before)
   pub sized : size ≡ served (writeAnswer comment (map unpacked numbers) (length before)) (length (fileOf comment (map unpacked numbers))) 0
-  pub firstBad : bad ≡ firstBad (map unpacked numbers)
+  pub badNumber : bad ≡ firstBad (map unpacked numbers)
   pub buffer :
       after ≡ served (writeAnswer comment (map unpacked numbers) (length before)) (sets before 0 (fileOf comment (map unpacked numbers))) before

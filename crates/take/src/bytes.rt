@@ -1,9 +1,11 @@
-// Numbers as bytes, low byte first.
+// Numbers and records as bytes, low byte first.
+use crate::Record;
 ghost use mathlib.Core.Path.{_≡_};
 ghost use Prim.Native.Nat.{_+_, _^_, _≤_, _<_};
 ghost use lib.ListN.{length, take, drop};
 ghost use lib.Seq.{sets};
 ghost use Rattle.take.specs.Bytes.{bytesOf, numberOf};
+ghost use Rattle.take.specs.Record.{recordIn};
 
 // The letters PLTK as a number.
 pub const LETTERS: u64 = 0x4B54_4C50;
@@ -26,6 +28,23 @@ pub fn number_at(bytes: &[u8], at: usize, width: usize) -> u64
         number = wide(bytes[at + left]) + number * 256;
     }
     number
+}
+
+// The record in the 8 bytes from a place on.
+pub fn record_from(file: &[u8], at: usize) -> Record
+    requires { ⌜ at + 8 ≤ length (now file) ⌝ }
+    ensures { λ r. ⌜ r ≡ recordIn (drop at (now (file .entry))) ⌝ }
+{
+    let line = number_at(file, at, 4);
+    let kind = number_at(file, at + 4, 1);
+    let address = number_at(file, at + 5, 2);
+    let value = number_at(file, at + 7, 1);
+    Record {
+        line: line as u32,
+        kind: kind as u8,
+        address: address as u16,
+        value: value as u8,
+    }
 }
 
 // Stores so many low bytes of a number from a place on.

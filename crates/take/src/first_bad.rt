@@ -1,6 +1,6 @@
 // The rules that a record keeps, and the first record that breaks one.
 use crate::Record;
-use crate::reader;
+use crate::bytes;
 ghost use mathlib.Core.Path.{_≡_};
 ghost use mathlib.Core.List.{map};
 ghost use Prim.Native.Nat.{_+_, _*_, _≤_};
@@ -84,7 +84,7 @@ pub fn of_file(file: &[u8], offset: usize, count: usize) -> usize
     let mut before: u32 = 0;
     let mut passed = 0;
     while passed < count {
-        let entry = reader::record_from(file, offset + 8 * passed);
+        let entry = bytes::record_from(file, offset + 8 * passed);
         if is_bad(before, entry) {
             return passed + 1;
         }

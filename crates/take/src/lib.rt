@@ -1,15 +1,16 @@
 // Takes on disc: the writer and the reader of a file of records.
 mod bytes;
 mod first_bad;
-mod reader;
+mod trailer;
 mod writer;
 
-use words::answer::BAD_RECORD;
-use words::answer::DONE;
+use common::answer::BAD_RECORD;
+use common::answer::DONE;
+use common::answer::NOTHING_THERE;
 ghost use mathlib.Core.Path.{_≡_};
 ghost use Rattle.take.specs.Record.{packed, unpacked};
-ghost use Rattle.take.specs.Write.{Writing};
-ghost use Rattle.take.specs.Open.{Opening, commentOf, recordAt, recordFrom};
+ghost use Rattle.take.specs.Contract.{WritesTake};
+ghost use Rattle.take.specs.Open.{Opening, commentOf, noRecord, ReadsRecord, recordFrom};
 
 // One call of a take.
 #[repr(C)]
@@ -52,7 +53,7 @@ pub struct Written {
 
 // Writes a take into a buffer: the comment, the records and the trailer.
 pub fn write(comment: &[u8], records: &[u64], output: &mut [u8]) -> Written
-    ensures { λ r. ⌜ Writing (now (comment .entry)) (now (records .entry)) (now (output .entry)) (now (output .exit)) (r .answer) (r .size) (r .bad) ⌝ }
+    ensures { λ r. ⌜ WritesTake (now (comment .entry)) (now (records .entry)) (now (output .entry)) (now (output .exit)) (r .answer) (r .size) (r .bad) ⌝ }
 {
     let bad = first_bad::of_numbers(records);
     let answer = writer::answer(bad, comment.len(), records.len(), output.len());
@@ -80,7 +81,7 @@ pub struct Opened {
 pub fn open(file: &[u8]) -> Opened
     ensures { λ r. ⌜ Opening (now (file .entry)) (r .answer) (r .bad) (r .count) (r .offset) ⌝ }
 {
-    let ends = reader::trailer(file);
+    let ends = trailer::trailer(file);
     let answer = ends.answer;
     if answer != DONE {
         return Opened {
@@ -116,21 +117,39 @@ pub fn comment(file: &[u8]) -> &[u8]
     &file[..offset]
 }
 
-// The record with this number, from 1.
-pub fn record_at(file: &[u8], number: usize) -> Record
-    ensures { λ r. ⌜ r ≡ recordAt (now (file .entry)) number ⌝ }
+// What asking for a record gives: the answer, and the record, which is all 0 where it is refused.
+#[repr(C)]
+pub struct RecordRead {
+    pub answer: u8,
+    pub entry: Record,
+}
+
+fn no_record(answer: u8) -> RecordRead
+    ensures { λ r. ⌜ (r .answer ≡ answer) × (r .entry ≡ noRecord) ⌝ }
 {
-    let ends = reader::trailer(file);
+    let entry = unpack(0);
+    RecordRead { answer, entry }
+}
+
+// The record with this number, from 1.
+pub fn record_at(file: &[u8], number: usize) -> RecordRead
+    ensures { λ r. ⌜ ReadsRecord (now (file .entry)) number (r .answer) (r .entry) ⌝ }
+{
+    let ends = trailer::trailer(file);
     if ends.answer != DONE {
-        return unpack(0);
+        return no_record(ends.answer);
     }
     if number == 0 {
-        return unpack(0);
+        return no_record(NOTHING_THERE);
     }
     if ends.count < number {
-        return unpack(0);
+        return no_record(NOTHING_THERE);
     }
-    reader::record_from(file, ends.offset + 8 * (number - 1))
+    let entry = bytes::record_from(file, ends.offset + 8 * (number - 1));
+    RecordRead {
+        answer: DONE,
+        entry,
+    }
 }
 
 // The record in the 8 bytes from a place on.
@@ -144,5 +163,5 @@ pub fn record_from(file: &[u8], at: usize) -> Record
     if length - 8 < at {
         return unpack(0);
     }
-    reader::record_from(file, at)
+    bytes::record_from(file, at)
 }

@@ -1,15 +1,16 @@
 // The writer's answer, and the parts of a file stored one after another.
 use crate::bytes;
-use words::answer::BAD_RECORD;
-use words::answer::DONE;
-use words::answer::NO_ROOM;
+use common::answer::BAD_RECORD;
+use common::answer::DONE;
+use common::answer::NO_ROOM;
 ghost use mathlib.Core.Path.{_≡_};
 ghost use mathlib.Core.List.{map};
 ghost use Prim.Native.Nat.{_+_, _*_, _≤_};
 ghost use lib.ListN.{length};
+ghost use Rattle.common.specs.Storing.{Puts};
 ghost use Rattle.take.specs.Record.{unpacked};
 ghost use Rattle.take.specs.File.{recordsBytes, trailer, fileOf};
-ghost use Rattle.take.specs.Parts.{fitting, measuredAnswer, Puts};
+ghost use Rattle.take.specs.Parts.{fitting, measuredAnswer};
 
 // Whether a file with an offset and a count that fit their 4 bytes has the room.
 fn fits(offset: usize, count: usize, room: usize) -> bool
@@ -35,19 +36,6 @@ pub fn answer(bad: usize, offset: usize, count: usize, room: usize) -> u8
         return NO_ROOM;
     }
     DONE
-}
-
-// The comment, from the buffer's start.
-fn put_comment(comment: &[u8], output: &mut [u8]) -> usize
-    requires { ⌜ length (now comment) ≤ length (now output) ⌝ }
-    ensures { λ r. ⌜ Puts (now (output .entry)) 0 (now (comment .entry)) (now (output .exit)) r ⌝ }
-{
-    let mut i = 0;
-    while i < comment.len() {
-        output[i] = comment[i];
-        i = i + 1;
-    }
-    i
 }
 
 // The records, from a place on.
@@ -81,7 +69,7 @@ pub fn put_file(comment: &[u8], records: &[u64], output: &mut [u8]) -> usize
     requires { ⌜ length (now comment) + 8 * length (now records) + 12 ≤ length (now output) ⌝ }
     ensures { λ r. ⌜ Puts (now (output .entry)) 0 (fileOf (now (comment .entry)) (map unpacked (now (records .entry)))) (now (output .exit)) r ⌝ }
 {
-    let offset = put_comment(comment, output);
+    let offset = common::put(output, 0, comment);
     let end = put_records(records, output, offset);
     put_trailer(output, end, records.len(), offset)
 }

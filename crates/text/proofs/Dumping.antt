@@ -3,10 +3,10 @@ use mathlib.Core.Path.{_≡_}
 use mathlib.Core.List.{List, _∷_, _++_}
 use Prim.Native.Nat.{ℕ}
 use lib.ListN.{length}
-use Rattle.words.specs.Answers.{done}
+use Rattle.common.specs.Answers.{done}
 use Rattle.chip.specs.declared.Chip.{Chip}
 use Rattle.export.specs.Export.{Exports, exportAnswer, exported, bytesOf}
-use Rattle.text.specs.Text.{numeral, lineEnd, Puts}
+use Rattle.text.specs.Text.{numeral, lineEnd, Appends}
 use Rattle.text.specs.Paint.{characters}
 use Rattle.text.specs.Dump.{digitAt, exportLine}
 
@@ -15,8 +15,8 @@ pub export-line :
     {c : Chip} {before bytes out out' : List ℕ} {r at next : ℕ} →
     Exports c before bytes r →
     length before ≡ 477 →
-    Puts out at (numeral r ++ 32 ∷ characters (digitAt bytes) 954 ++ lineEnd) out' next →
-    Puts out at (exportLine c) out' next
+    Appends out at (numeral r ++ 32 ∷ characters (digitAt bytes) 954 ++ lineEnd) out' next →
+    Appends out at (exportLine c) out' next
 unfolding exportLine exportAnswer
 export-line {c} {before} {bytes} {out} {out'} {r} e size p =
     let answer : r ≡ done = rw size at (e .answer) in

@@ -1,7 +1,7 @@
 -- Laws of a drawn line as text.
 use mathlib.Core.Path.{_≡_, refl, sym, _∙_}
-use mathlib.Core.List.{List, [], _∷_, _++_, append-assoc, append-nil}
-use Prim.Native.Nat.{ℕ, zero, suc, _+_, _≤_, _<_}
+use mathlib.Core.List.{List, _∷_, _++_, append-assoc, append-nil}
+use Prim.Native.Nat.{ℕ, zero, suc, _+_, _<_}
 use native.Mathlib.Nat.{add-zero}
 use native.Mathlib.Numerals.{add-one}
 use native.Mathlib.Omega.{arith}
@@ -10,7 +10,7 @@ use lib.ListN.{length, take, set, getD, length-append}
 use lib.Seq.{take-suc-set}
 use Rattle.chip.specs.declared.Chip.{Chip}
 use Rattle.draw.specs.Drawing.{drawAnswer, entryAt, Draws}
-use Rattle.text.specs.Text.{numeral, lineEnd, Puts}
+use Rattle.text.specs.Text.{numeral, lineEnd, Appends}
 use Rattle.text.specs.Paint.{character, characters, paintedLine}
 
 -- there are as many characters as positions
@@ -48,7 +48,7 @@ pub entries-all :
     (f : ℕ → ℕ) (before out : List ℕ) (at n i : ℕ) →
     i ≡ n →
     take (at + i) out ≡ take at before ++ characters f i →
-    Puts before at (characters f n) out (at + i)
+    Appends before at (characters f n) out (at + i)
 entries-all f before out at n i e h =
     let whole : characters f i ≡ characters f n = rw e in
     record { place = simp (characters-length, e); shown = rw whole at h }
@@ -61,8 +61,8 @@ module _ {c : Chip} {ram store before line : List ℕ} {r : ℕ} (d : Draws c ra
   pub refused-line :
       {out out' : List ℕ} {at next : ℕ} →
       (r ≡ 0 → ⊥) →
-      Puts out at (numeral r ++ lineEnd) out' next →
-      Puts out at (paintedLine c ram store) out' next
+      Appends out at (numeral r ++ lineEnd) out' next →
+      Appends out at (paintedLine c ram store) out' next
   unfolding paintedLine
   refused-line h p = simp (answered, ne-eqb r 0 h, append-nil) p
 
@@ -70,8 +70,8 @@ module _ {c : Chip} {ram store before line : List ℕ} {r : ℕ} (d : Draws c ra
   pub drawn-line :
       {out out' : List ℕ} {at next : ℕ} →
       r ≡ 0 →
-      Puts out at (numeral r ++ 32 ∷ characters (λ (x : ℕ). getD line x 0) (length line) ++ lineEnd) out' next →
-      Puts out at (paintedLine c ram store) out' next
+      Appends out at (numeral r ++ 32 ∷ characters (λ (x : ℕ). getD line x 0) (length line) ++ lineEnd) out' next →
+      Appends out at (paintedLine c ram store) out' next
   unfolding paintedLine
   drawn-line z p =
       let long : length line ≡ 640 = d .size ∙ size in

@@ -3,8 +3,8 @@ use mathlib.Core.List.{List, _∷_, _++_}
 use Prim.Native.Nat.{ℕ, _/_, _%_}
 use lib.Dec.{eqb}
 use lib.ListN.{getD}
-use Rattle.words.specs.Answers.{done}
-use Rattle.words.specs.Choice.{if}
+use Rattle.common.specs.Answers.{done}
+use Rattle.common.specs.Choice.{if}
 use Rattle.chip.specs.declared.Chip.{Chip}
 use Rattle.export.specs.Export.{exported, bytesOf}
 use Rattle.text.specs.Text.{numeral, lineEnd}

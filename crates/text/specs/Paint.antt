@@ -3,7 +3,7 @@ use mathlib.Core.List.{List, [], _∷_, _++_}
 use Prim.Native.Nat.{ℕ, zero, suc, _+_}
 use lib.Dec.{eqb, ltb}
 use lib.ListN.{length}
-use Rattle.words.specs.Choice.{if}
+use Rattle.common.specs.Choice.{if}
 use Rattle.chip.specs.declared.Chip.{Chip}
 use Rattle.draw.specs.Drawing.{drawAnswer, entryAt}
 use Rattle.text.specs.Text.{numeral, lineEnd}

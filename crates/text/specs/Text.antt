@@ -4,7 +4,7 @@ use mathlib.Core.List.{List, [], _∷_, _++_}
 use Prim.Native.Nat.{ℕ, zero, suc, _+_, _/_, _%_}
 use lib.Dec.{ltb}
 use lib.ListN.{length, take}
-use Rattle.words.specs.Choice.{if}
+use Rattle.common.specs.Choice.{if}
 use Rattle.words.specs.declared.WordKind.{WordKind}
 use Rattle.words.specs.declared.WordKind.the-variants.{Load, Pause, Repeat, Control, Nothing}
 use Rattle.sound.specs.declared.Did.{Did}
@@ -41,6 +41,6 @@ didText SatOut = 32 ∷ 45 ∷ []
 didText (Executed kind low) = kindName kind ++ spacedNumeral low
 
 -- a text put at a place: what stood before it stays, and the next place is that after it
-pub record Puts (before : List ℕ) (at : ℕ) (text after : List ℕ) (next : ℕ) : Type 0 where
+pub record Appends (before : List ℕ) (at : ℕ) (text after : List ℕ) (next : ℕ) : Type 0 where
   pub place : next ≡ at + length text
   pub shown : take next after ≡ take at before ++ text

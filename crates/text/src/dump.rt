@@ -2,9 +2,9 @@
 use crate::paint;
 use chip::Chip;
 ghost use mathlib.Core.Path.{_≡_};
-ghost use Prim.Native.Nat.{_+_, _*_, _≤_, _<_};
+ghost use Prim.Native.Nat.{_+_, _≤_, _<_};
 ghost use lib.ListN.{length};
-ghost use Rattle.text.specs.Text.{Puts};
+ghost use Rattle.text.specs.Text.{Appends};
 ghost use Rattle.text.specs.Paint.{characters};
 ghost use Rattle.text.specs.Dump.{digitAt, exportLine};
 
@@ -12,7 +12,7 @@ ghost use Rattle.text.specs.Dump.{digitAt, exportLine};
 fn digit_at(bytes: &[u8], x: usize) -> u8
     ensures { λ r. ⌜ (r ≡ digitAt (now (bytes .entry)) x) × (r < 16) ⌝ }
 {
-    let byte = words::byte_at(bytes, x / 2);
+    let byte = common::byte_at(bytes, x / 2);
     if x % 2 == 0 {
         return byte / 16;
     }
@@ -22,7 +22,7 @@ fn digit_at(bytes: &[u8], x: usize) -> u8
 // Bytes in hexadecimal, two digits each.
 fn put_digits(out: &mut [u8], at: usize, bytes: &[u8]) -> usize
     requires { ⌜ at + 954 ≤ length (now out) ⌝ }
-    ensures { λ r. ⌜ Puts (now (out .entry)) at (characters (digitAt (now (bytes .entry))) 954) (now (out .exit)) r ⌝ }
+    ensures { λ r. ⌜ Appends (now (out .entry)) at (characters (digitAt (now (bytes .entry))) 954) (now (out .exit)) r ⌝ }
     ensures { λ r. ⌜ r ≡ at + 954 ⌝ }
 {
     let mut x = 0;
@@ -36,7 +36,7 @@ fn put_digits(out: &mut [u8], at: usize, bytes: &[u8]) -> usize
 // The line of a record that exports.
 pub fn exported(chip: Chip, out: &mut [u8], at: usize) -> usize
     requires { ⌜ at + 1000 ≤ length (now out) ⌝ }
-    ensures { λ r. ⌜ Puts (now (out .entry)) at (exportLine chip) (now (out .exit)) r ⌝ }
+    ensures { λ r. ⌜ Appends (now (out .entry)) at (exportLine chip) (now (out .exit)) r ⌝ }
     ensures { λ r. ⌜ r ≤ at + 1000 ⌝ }
 {
     let mut bytes = [0u8; 477];

@@ -3,13 +3,13 @@ use forecast::Length;
 use sound::Report;
 ghost use Prim.Native.Nat.{_+_, _≤_};
 ghost use lib.ListN.{length};
-ghost use Rattle.text.specs.Text.{Puts};
+ghost use Rattle.text.specs.Text.{Appends};
 ghost use Rattle.text.specs.Lines.{oneLine, twoLine, stepLine, forecastLine, badLine, shortLine};
 
 // One number.
 pub fn one(out: &mut [u8], at: usize, answer: u8) -> usize
     requires { ⌜ at + 21 ≤ length (now out) ⌝ }
-    ensures { λ r. ⌜ Puts (now (out .entry)) at (oneLine answer) (now (out .exit)) r ⌝ }
+    ensures { λ r. ⌜ Appends (now (out .entry)) at (oneLine answer) (now (out .exit)) r ⌝ }
     ensures { λ r. ⌜ r ≤ at + 21 ⌝ }
 {
     let next = crate::number(out, at, answer as u64);
@@ -19,7 +19,7 @@ pub fn one(out: &mut [u8], at: usize, answer: u8) -> usize
 // Two numbers.
 pub fn two(out: &mut [u8], at: usize, answer: u8, byte: u8) -> usize
     requires { ⌜ at + 42 ≤ length (now out) ⌝ }
-    ensures { λ r. ⌜ Puts (now (out .entry)) at (twoLine answer byte) (now (out .exit)) r ⌝ }
+    ensures { λ r. ⌜ Appends (now (out .entry)) at (twoLine answer byte) (now (out .exit)) r ⌝ }
     ensures { λ r. ⌜ r ≤ at + 42 ⌝ }
 {
     let next = crate::number(out, at, answer as u64);
@@ -30,7 +30,7 @@ pub fn two(out: &mut [u8], at: usize, answer: u8, byte: u8) -> usize
 // A line step: the answer, the cycles and the three channels.
 pub fn stepped(out: &mut [u8], at: usize, answer: u8, report: Report) -> usize
     requires { ⌜ at + 129 ≤ length (now out) ⌝ }
-    ensures { λ r. ⌜ Puts (now (out .entry)) at (stepLine answer report) (now (out .exit)) r ⌝ }
+    ensures { λ r. ⌜ Appends (now (out .entry)) at (stepLine answer report) (now (out .exit)) r ⌝ }
     ensures { λ r. ⌜ r ≤ at + 129 ⌝ }
 {
     let entries = report.entries;
@@ -51,7 +51,7 @@ pub fn stepped(out: &mut [u8], at: usize, answer: u8, report: Report) -> usize
 // A forecast: the answer, lines, least cycles, how many bytes the list takes, and most cycles.
 pub fn forecast(out: &mut [u8], at: usize, told: Length, bytes: usize) -> usize
     requires { ⌜ at + 105 ≤ length (now out) ⌝ }
-    ensures { λ r. ⌜ Puts (now (out .entry)) at (forecastLine (told .answer) (told .lines) (told .cycles) bytes (told .most)) (now (out .exit)) r ⌝ }
+    ensures { λ r. ⌜ Appends (now (out .entry)) at (forecastLine (told .answer) (told .lines) (told .cycles) bytes (told .most)) (now (out .exit)) r ⌝ }
     ensures { λ r. ⌜ r ≤ at + 105 ⌝ }
 {
     let a = crate::number(out, at, told.answer as u64);
@@ -65,7 +65,7 @@ pub fn forecast(out: &mut [u8], at: usize, told: Length, bytes: usize) -> usize
 // A record that names no call.
 pub fn bad(out: &mut [u8], at: usize) -> usize
     requires { ⌜ at + 4 ≤ length (now out) ⌝ }
-    ensures { λ r. ⌜ Puts (now (out .entry)) at badLine (now (out .exit)) r ⌝ }
+    ensures { λ r. ⌜ Appends (now (out .entry)) at badLine (now (out .exit)) r ⌝ }
     ensures { λ r. ⌜ r ≤ at + 4 ⌝ }
 {
     crate::put(out, at, b"bad\n")
@@ -74,7 +74,7 @@ pub fn bad(out: &mut [u8], at: usize) -> usize
 // Input that ends too early.
 pub fn short(out: &mut [u8], at: usize) -> usize
     requires { ⌜ at + 6 ≤ length (now out) ⌝ }
-    ensures { λ r. ⌜ Puts (now (out .entry)) at shortLine (now (out .exit)) r ⌝ }
+    ensures { λ r. ⌜ Appends (now (out .entry)) at shortLine (now (out .exit)) r ⌝ }
     ensures { λ r. ⌜ r ≤ at + 6 ⌝ }
 {
     crate::put(out, at, b"short\n")

@@ -2,7 +2,7 @@
 
 use crate::machine::{Machine, Replay};
 use plus::take::{kind, Record, COUNTS};
-use plus::{answer, Access};
+use plus::{Access, Answer};
 
 /// A machine from reset, the buffers that it is lent, and what a replay counts.
 pub struct ByHand<'a, M> {
@@ -28,13 +28,13 @@ impl<'a, M: Machine> ByHand<'a, M> {
     pub fn step_to(&mut self, line: u32) {
         while self.lines < line {
             let (answer, _) = self.chip.step(self.ram, [Access::Off; 3]);
-            assert_eq!(answer, answer::DONE);
+            assert_eq!(answer, Answer::Done);
             self.lines += 1;
         }
     }
 
     /// Makes a record's call: its answer.
-    pub fn call(&mut self, record: Record) -> u8 {
+    pub fn call(&mut self, record: Record) -> Answer {
         let Record { address, value, .. } = record;
         match record.kind {
             kind::WRITE_BC => self.chip.write_bc(value),
@@ -48,9 +48,9 @@ impl<'a, M: Machine> ByHand<'a, M> {
     }
 
     /// Counts an answer if it is a refusal.
-    pub fn count(&mut self, answer: u8) {
-        if answer != answer::DONE {
-            self.counts[usize::from(answer)] += 1;
+    pub fn count(&mut self, answer: Answer) {
+        if answer != Answer::Done {
+            self.counts[answer as usize] += 1;
         }
     }
 
@@ -64,7 +64,7 @@ impl<'a, M: Machine> ByHand<'a, M> {
     /// What it has come to, as a replay that was served.
     pub fn end(self) -> Replay<M> {
         Replay {
-            answer: answer::DONE,
+            answer: Answer::Done,
             bad: 0,
             chip: self.chip,
             lines: self.lines,

@@ -10,7 +10,7 @@ pub mod replay;
 mod script;
 pub mod take;
 
-pub use call::{Answer, Buffers, Call};
+pub use call::{Buffers, Call, Reply};
 pub use script::Script;
 
 use crate::machine::Machine;
@@ -32,12 +32,12 @@ pub struct Tally {
 }
 
 impl Tally {
-    fn add(&mut self, call: Call, answer: Answer) {
+    fn add(&mut self, call: Call, reply: Reply) {
         if let Some(row) = call.row() {
             self.calls += 1;
-            self.answers[row][answer.number() as usize] += 1;
+            self.answers[row][reply.number() as usize] += 1;
         }
-        if let (Call::Step { accesses, .. }, Answer::Line(_, report)) = (call, answer) {
+        if let (Call::Step { accesses, .. }, Reply::Line(_, report)) = (call, reply) {
             for (access, reported) in accesses.into_iter().zip(report.kinds) {
                 self.loads[access as usize] += u64::from(reported == kind::LOAD);
             }
@@ -92,12 +92,12 @@ fn run<M: Machine>(script: &Script, calls: &[Call], tally: &mut Tally) -> Option
     }
     for (n, &call) in calls.iter().enumerate() {
         let before = core.editing.undo;
-        let answer = call.make(&mut core, &mut core_lent);
+        let reply = call.make(&mut core, &mut core_lent);
         let expected = call.make(&mut other, &mut other_lent);
-        tally.add(call, answer);
+        tally.add(call, reply);
         tally.add_record(before, core.editing.undo);
-        if answer != expected {
-            let how = format!("core answers {answer:02X?}, not {expected:02X?}");
+        if reply != expected {
+            let how = format!("core answers {reply:02X?}, not {expected:02X?}");
             return Some((n, how));
         }
         if let Some(how) = differ::machines(&core, &other) {

@@ -49,8 +49,9 @@ pub use take::{
     AddressHighFirst, BadRecordFrom0, BeyondTakeCleared, CommentThoughRefused,
     CountAndOffsetSwapped, CountThoughBad, EndBy32Bits, FallingLineAccepted, FullRoomRefused,
     GapAllowed, Kind0Accepted, Kind7Accepted, KindByValue, LineBy16Bits, MetBeforeLetters,
-    NoRecordsThoughMet, OffsetCut, PortWithAddress, RecordFrom0, RecordsBeforeMet,
-    RoomBeforeRecords, SameLineBad, ThreeLetters, TrailerOf11, UndoWithValue,
+    NoRecordsThoughMet, NoSuchRecordServed, NumberBeforeTrailer, OffsetCut, PortWithAddress,
+    RecordFrom0, RecordsBeforeMet, RoomBeforeRecords, SameLineBad, ThreeLetters, TrailerOf11,
+    UndoWithValue,
 };
 pub use undo::{
     CapturedSplitBack, DcsrKept, EmptyFirst, EmptyServed, OtherByteToo, PixelBackBy4Bits,

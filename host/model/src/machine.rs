@@ -6,15 +6,15 @@ mod convert;
 
 use crate::chip::{self, Did, Kind, Model};
 use plus::listing::{self, Printed, ReadBack};
-use plus::take::{self, Opened, Record, Replayed, Written, COUNTS};
-use plus::{kind, Access, Chip, Editing, Length, Report, State};
+use plus::take::{self, Opened, Record, RecordRead, Replayed, Written, COUNTS};
+use plus::{kind, Access, Answer, Chip, Editing, Length, Report, State};
 use std::marker::PhantomData;
 use std::mem;
 
 /// What playing a take gives, on any machine.
 #[derive(Clone, Debug)]
 pub struct Replay<M> {
-    pub answer: u8,
+    pub answer: Answer,
     pub bad: usize,
     pub chip: M,
     pub lines: u32,
@@ -153,34 +153,34 @@ calls! {
         fn reset() -> ();
 
         /// A byte to BCxx.
-        fn write_bc(byte: u8) -> u8;
+        fn write_bc(byte: u8) -> Answer;
 
         /// A 6845 data write.
-        fn write_bd(byte: u8) -> u8;
+        fn write_bd(byte: u8) -> Answer;
 
         /// A byte to 7Fxx.
-        fn write_7f(byte: u8) -> u8;
+        fn write_7f(byte: u8) -> Answer;
 
         /// A page read: the answer and the byte.
-        fn page_read(store: &[u8], address: u16, bus: u8) -> (u8, u8);
+        fn page_read(store: &[u8], address: u16, bus: u8) -> (Answer, u8);
 
         /// A page write.
-        fn page_write(store: &mut [u8], address: u16, byte: u8) -> u8;
+        fn page_write(store: &mut [u8], address: u16, byte: u8) -> Answer;
 
         /// The newest page write taken back.
-        fn undo(store: &mut [u8]) -> u8;
+        fn undo(store: &mut [u8]) -> Answer;
 
         /// The registers exported.
-        fn export(out: &mut [u8]) -> u8;
+        fn export(out: &mut [u8]) -> Answer;
 
         /// An acknowledge: the answer and the vector.
-        fn acknowledge() -> (u8, u8);
+        fn acknowledge() -> (Answer, u8);
 
         /// A line step, with what the processor does at the 8255.
-        fn step(ram: &[u8], accesses: [Access; 3]) -> (u8, Report);
+        fn step(ram: &[u8], accesses: [Access; 3]) -> (Answer, Report);
 
         /// The current line drawn.
-        fn draw(ram: &[u8], store: &[u8], line: &mut [u8]) -> u8;
+        fn draw(ram: &[u8], store: &[u8], line: &mut [u8]) -> Answer;
     }
 
     no_chip {
@@ -210,7 +210,7 @@ calls! {
         fn take_open(file: &[u8]) -> Opened = take::open;
 
         /// A take's record of a number.
-        fn take_record(file: &[u8], number: usize) -> Record = take::record_at;
+        fn take_record(file: &[u8], number: usize) -> RecordRead = take::record_at;
     }
 }
 
@@ -241,14 +241,14 @@ impl Machine for Model {
 
     fn replay(ram: &[u8], store: &mut [u8], file: &[u8]) -> Replay<Model> {
         let chip::Replay {
-            answer,
+            answer: number,
             bad,
             chip,
             lines,
             counts,
         } = chip::replay(ram, store, file);
         Replay {
-            answer,
+            answer: answer(number),
             bad,
             chip,
             lines,
@@ -274,45 +274,47 @@ impl Machine for Model {
         *self = Model::new();
     }
 
-    fn write_bc(&mut self, byte: u8) -> u8 {
-        Model::write_bc(self, byte)
+    fn write_bc(&mut self, byte: u8) -> Answer {
+        answer(Model::write_bc(self, byte))
     }
 
-    fn write_bd(&mut self, byte: u8) -> u8 {
-        Model::write_bd(self, byte)
+    fn write_bd(&mut self, byte: u8) -> Answer {
+        answer(Model::write_bd(self, byte))
     }
 
-    fn write_7f(&mut self, byte: u8) -> u8 {
-        Model::write_7f(self, byte)
+    fn write_7f(&mut self, byte: u8) -> Answer {
+        answer(Model::write_7f(self, byte))
     }
 
-    fn page_read(&mut self, store: &[u8], address: u16, bus: u8) -> (u8, u8) {
-        Model::page_read(self, store, address, bus)
+    fn page_read(&mut self, store: &[u8], address: u16, bus: u8) -> (Answer, u8) {
+        let (number, byte) = Model::page_read(self, store, address, bus);
+        (answer(number), byte)
     }
 
-    fn page_write(&mut self, store: &mut [u8], address: u16, byte: u8) -> u8 {
-        Model::page_write(self, store, address, byte)
+    fn page_write(&mut self, store: &mut [u8], address: u16, byte: u8) -> Answer {
+        answer(Model::page_write(self, store, address, byte))
     }
 
-    fn undo(&mut self, store: &mut [u8]) -> u8 {
-        Model::undo(self, store)
+    fn undo(&mut self, store: &mut [u8]) -> Answer {
+        answer(Model::undo(self, store))
     }
 
-    fn export(&mut self, out: &mut [u8]) -> u8 {
-        Model::export(self, out)
+    fn export(&mut self, out: &mut [u8]) -> Answer {
+        answer(Model::export(self, out))
     }
 
-    fn acknowledge(&mut self) -> (u8, u8) {
-        Model::acknowledge(self)
+    fn acknowledge(&mut self) -> (Answer, u8) {
+        let (number, vector) = Model::acknowledge(self);
+        (answer(number), vector)
     }
 
-    fn step(&mut self, ram: &[u8], accesses: [Access; 3]) -> (u8, Report) {
-        let (answer, report) = Model::step(self, ram, accesses.map(Into::into));
-        (answer, in_numbers(&report))
+    fn step(&mut self, ram: &[u8], accesses: [Access; 3]) -> (Answer, Report) {
+        let (number, report) = Model::step(self, ram, accesses.map(Into::into));
+        (answer(number), in_numbers(&report))
     }
 
-    fn draw(&mut self, ram: &[u8], store: &[u8], line: &mut [u8]) -> u8 {
-        Model::draw(self, ram, store, line)
+    fn draw(&mut self, ram: &[u8], store: &[u8], line: &mut [u8]) -> Answer {
+        answer(Model::draw(self, ram, store, line))
     }
 
     fn forecast(ram: &[u8], start: u16, prescale: u8) -> Length {
@@ -324,7 +326,7 @@ impl Machine for Model {
             list.as_ptr() as usize - ram.as_ptr() as usize
         };
         Length {
-            answer: told.answer,
+            answer: answer(told.answer),
             lines: told.lines,
             cycles: told.cycles,
             most: told.most,
@@ -338,14 +340,17 @@ impl Machine for Model {
     }
 
     fn print(words: &[u16], text: &mut [u8]) -> Printed {
-        let (answer, size) = chip::print(words, text);
-        Printed { answer, size }
+        let (number, size) = chip::print(words, text);
+        Printed {
+            answer: answer(number),
+            size,
+        }
     }
 
     fn read(text: &[u8], words: &mut [u16]) -> ReadBack {
-        let (answer, count, line) = chip::read(text, words);
+        let (number, count, line) = chip::read(text, words);
         ReadBack {
-            answer,
+            answer: answer(number),
             count,
             line,
         }
@@ -360,23 +365,36 @@ impl Machine for Model {
     }
 
     fn take_write(comment: &[u8], records: &[u64], output: &mut [u8]) -> Written {
-        let (answer, size, bad) = chip::take_write(comment, records, output);
-        Written { answer, size, bad }
+        let (number, size, bad) = chip::take_write(comment, records, output);
+        Written {
+            answer: answer(number),
+            size,
+            bad,
+        }
     }
 
     fn take_open(file: &[u8]) -> Opened {
-        let (answer, bad, count, offset) = chip::take_open(file);
+        let (number, bad, count, offset) = chip::take_open(file);
         Opened {
-            answer,
+            answer: answer(number),
             bad,
             count,
             offset,
         }
     }
 
-    fn take_record(file: &[u8], number: usize) -> Record {
-        chip::take_record(file, number).into()
+    fn take_record(file: &[u8], number: usize) -> RecordRead {
+        let (number, record) = chip::take_record(file, number);
+        RecordRead {
+            answer: answer(number),
+            record: record.into(),
+        }
     }
+}
+
+/// The answer of a number that the model gives.
+fn answer(number: u8) -> Answer {
+    Answer::try_from(number).expect("the model answers a number of the table")
 }
 
 /// The model's report as the C interface numbers it.

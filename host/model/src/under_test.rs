@@ -2,7 +2,7 @@
 //! ends the test.
 
 use crate::machine::Machine;
-use plus::{answer, Access, Report, State, EXPORT, LINE, RAM, STORE, UNLOCK};
+use plus::{Access, Answer, Report, State, EXPORT, LINE, RAM, STORE, UNLOCK};
 
 /// What follows a byte that isn't zero and a zero, in the unlock sequence.
 pub const KEY: &[u8] = UNLOCK.split_at(2).1.split_at(14).0;
@@ -40,7 +40,7 @@ pub trait UnderTest: Machine + Sized {
     /// Bytes to BCxx.
     fn feed(&mut self, bytes: &[u8]) {
         for &byte in bytes {
-            assert_eq!(self.write_bc(byte), answer::DONE);
+            assert_eq!(self.write_bc(byte), Answer::Done);
         }
     }
 
@@ -48,7 +48,7 @@ pub trait UnderTest: Machine + Sized {
     fn open() -> Self {
         let mut chip = Self::new();
         chip.feed(&UNLOCK);
-        assert_eq!(chip.write_7f(0xB8), answer::DONE);
+        assert_eq!(chip.write_7f(0xB8), Answer::Done);
         assert!(chip.state().gate.mapped);
         chip
     }
@@ -63,25 +63,25 @@ pub trait UnderTest: Machine + Sized {
     /// A page write where the pixels don't matter.
     fn poke(&mut self, address: u16, byte: u8) {
         let answer = self.page_write(&mut [0; STORE], address, byte);
-        assert_eq!(answer, answer::DONE, "{address:04X}");
+        assert_eq!(answer, Answer::Done, "{address:04X}");
     }
 
     /// A page read where they don't.
     fn peek(&mut self, address: u16, bus: u8) -> u8 {
         let (answer, byte) = self.page_read(&[0; STORE], address, bus);
-        assert_eq!(answer, answer::DONE, "{address:04X}");
+        assert_eq!(answer, Answer::Done, "{address:04X}");
         byte
     }
 
     /// An undo where they don't.
     fn take_back(&mut self) {
-        assert_eq!(self.undo(&mut [0; STORE]), answer::DONE);
+        assert_eq!(self.undo(&mut [0; STORE]), Answer::Done);
     }
 
     /// The export, over other bytes.
     fn exported(&mut self) -> [u8; EXPORT] {
         let mut out = [0xEE; EXPORT];
-        assert_eq!(self.export(&mut out), answer::DONE);
+        assert_eq!(self.export(&mut out), Answer::Done);
         out
     }
 
@@ -95,7 +95,7 @@ pub trait UnderTest: Machine + Sized {
     /// A 6845 register set through the ports.
     fn register(&mut self, number: u8, value: u8) {
         self.feed(&[number]);
-        assert_eq!(self.write_bd(value), answer::DONE, "R{number}");
+        assert_eq!(self.write_bd(value), Answer::Done, "R{number}");
     }
 
     /// Several of them.
@@ -140,21 +140,21 @@ pub trait UnderTest: Machine + Sized {
     }
 
     /// A line step with the processor off the 8255.
-    fn plain_step(&mut self, ram: &[u8]) -> (u8, Report) {
+    fn plain_step(&mut self, ram: &[u8]) -> (Answer, Report) {
         self.step(ram, [Access::Off; 3])
     }
 
     /// Several of them.
     fn lines(&mut self, count: usize, ram: &[u8]) {
         for _ in 0..count {
-            assert_eq!(self.plain_step(ram).0, answer::DONE);
+            assert_eq!(self.plain_step(ram).0, Answer::Done);
         }
     }
 
     /// The current line, drawn over other bytes.
     fn drawn(&mut self, ram: &[u8], store: &[u8]) -> Vec<u8> {
         let mut line = vec![0xEE; LINE];
-        assert_eq!(self.draw(ram, store, &mut line), answer::DONE);
+        assert_eq!(self.draw(ram, store, &mut line), Answer::Done);
         line
     }
 }

@@ -160,6 +160,9 @@ fn takes_are_the_models() {
     for number in [0, 11, 12, 13] {
         assert!(tally.opened[number] >= 5_000, "{tally:?}");
     }
+    for number in [0, 3, 11, 12] {
+        assert!(tally.read[number] >= 10_000, "{tally:?}");
+    }
 }
 
 #[test]
@@ -171,6 +174,9 @@ fn short_files_are_the_models() {
     println!("{tally:?}");
     for number in [0, 11, 12, 13] {
         assert!(tally.opened[number] >= 5_000, "{tally:?}");
+    }
+    for number in [0, 3, 11, 12] {
+        assert!(tally.read[number] >= 10_000, "{tally:?}");
     }
 }
 
@@ -206,8 +212,8 @@ take_caught! {
     AddressHighFirst, BadRecordFrom0, BeyondTakeCleared, CommentThoughRefused,
     CountAndOffsetSwapped, CountThoughBad, FallingLineAccepted, FullRoomRefused, GapAllowed,
     Kind0Accepted, Kind7Accepted, KindByValue, LineBy16Bits, MetBeforeLetters,
-    NoRecordsThoughMet, PortWithAddress, RecordFrom0, RecordsBeforeMet, RoomBeforeRecords,
-    SameLineBad, ThreeLetters, TrailerOf11, UndoWithValue
+    NoRecordsThoughMet, NoSuchRecordServed, NumberBeforeTrailer, PortWithAddress, RecordFrom0,
+    RecordsBeforeMet, RoomBeforeRecords, SameLineBad, ThreeLetters, TrailerOf11, UndoWithValue
 }
 
 /// A test for each order of refusals: it is seen where all sets of faults are.

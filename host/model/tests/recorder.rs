@@ -4,7 +4,7 @@ use model::by_hand::ByHand;
 use model::compare::replay::{in_a_take, note};
 use model::compare::Script;
 use plus::take::{file_of, kind, Noted, Record, Recorder, Take};
-use plus::{answer, Access, Chip, State, RAM, STORE, UNLOCK};
+use plus::{Access, Answer, Chip, State, RAM, STORE, UNLOCK};
 
 /// The processor is off the 8255: a take says nothing of it, and the state does
 /// not depend on it.
@@ -43,7 +43,7 @@ fn the_calls_noted_lead_to_the_same_chip() {
             for &record in records {
                 played.step_to(record.line);
                 let before = shown(&played);
-                assert_eq!(played.call(record), answer::DONE, "{record:?}");
+                assert_eq!(played.call(record), Answer::Done, "{record:?}");
                 let changed = shown(&played) != before;
                 assert!(changed || noted == Noted::Served, "{record:?}");
             }
@@ -80,7 +80,7 @@ fn mapped(noted: Noted) -> (Recorder, usize) {
     for byte in UNLOCK {
         recorder.write_bc(byte);
     }
-    recorder.write_7f(0xB8);
+    let _ = recorder.write_7f(0xB8);
     let noted = recorder.records().unwrap().len();
     (recorder, noted)
 }
@@ -91,18 +91,18 @@ fn each_kind_with_its_line() {
     let (mut ram, mut store) = (vec![0; RAM], vec![0; STORE]);
     ram[..2].copy_from_slice(&0x4030_u16.to_le_bytes());
     recorder.write_bc(9);
-    recorder.write_bd(7);
-    recorder.page_write(&mut store, 0x6805, 0);
-    recorder.page_write(&mut store, 0x6C0F, 1);
+    let _ = recorder.write_bd(7);
+    let _ = recorder.page_write(&mut store, 0x6805, 0);
+    let _ = recorder.page_write(&mut store, 0x6C0F, 1);
     assert_eq!(recorder.step(&ram, OFF).0, 0);
     assert_eq!(recorder.acknowledge().0, 0);
     // Refused, and no line step.
     assert_eq!(recorder.step(&ram[1..], OFF).0, 1);
     assert_eq!(recorder.undo(&mut store[1..]), 1);
     assert_eq!(recorder.acknowledge().0, 5);
-    recorder.step(&ram, OFF);
-    recorder.page_write(&mut store, 0x4000, 0x0F);
-    recorder.undo(&mut store);
+    let _ = recorder.step(&ram, OFF);
+    let _ = recorder.page_write(&mut store, 0x4000, 0x0F);
+    let _ = recorder.undo(&mut store);
     let record = |line, kind, address, value| Record {
         line,
         kind,
@@ -131,16 +131,16 @@ fn calls_that_change_nothing() {
         recorder.write_bc(3);
         // The register selected again, the page mapped again, no enable set.
         recorder.write_bc(3);
-        recorder.write_7f(0xB8);
-        recorder.page_write(&mut store, 0x6C0F, 0);
+        let _ = recorder.write_7f(0xB8);
+        let _ = recorder.page_write(&mut store, 0x6C0F, 0);
         assert_eq!(recorder.records().unwrap().len(), before + more);
         // A byte that its register has already is kept for undo, which is a change.
-        recorder.page_write(&mut store, 0x6800, 0);
-        recorder.page_write(&mut store, 0x4000, 0);
+        let _ = recorder.page_write(&mut store, 0x6800, 0);
+        let _ = recorder.page_write(&mut store, 0x4000, 0);
         assert_eq!(recorder.records().unwrap().len(), before + more + 2);
         // A read is never noted, nor is drawing or an export.
-        recorder.page_read(&store, 0x6800, 0);
-        recorder.export(&mut [0; plus::EXPORT]);
+        let _ = recorder.page_read(&store, 0x6800, 0);
+        let _ = recorder.export(&mut [0; plus::EXPORT]);
         assert_eq!(recorder.records().unwrap().len(), before + more + 2);
     }
 }
@@ -151,11 +151,11 @@ fn more_writes_than_can_be_undone() {
     let (mut recorder, before) = mapped(Noted::Changes);
     let mut store = vec![0; STORE];
     for _ in 0..700 {
-        recorder.page_write(&mut store, 0x4000, 0);
+        let _ = recorder.page_write(&mut store, 0x4000, 0);
     }
     assert_eq!(recorder.records().unwrap().len(), before + 700);
     for _ in 0..300 {
-        recorder.undo(&mut store);
+        let _ = recorder.undo(&mut store);
     }
     assert_eq!(recorder.records().unwrap().len(), before + 700 + 256);
 }
@@ -163,7 +163,7 @@ fn more_writes_than_can_be_undone() {
 #[test]
 fn a_reset_starts_anew() {
     let (mut recorder, _) = mapped(Noted::Changes);
-    recorder.step(&[0; RAM], OFF);
+    let _ = recorder.step(&[0; RAM], OFF);
     recorder.reset();
     assert_eq!(recorder.records(), Ok(&[][..]));
     assert_eq!(**recorder, *Chip::new());

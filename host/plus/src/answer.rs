@@ -1,52 +1,141 @@
-//! The numbers a call can answer. Where several apply it is the lowest.
+//! What a call can answer.
 
-/// The call was served.
-pub const DONE: u8 = 0;
+use std::error::Error;
+use std::fmt;
 
-/// A lent buffer has the wrong length: page read and write, undo, export, line
-/// step, drawing, forecast, playing a take.
-pub const WRONG_LENGTH: u8 = 1;
+/// What a call answers: that it was served, or why it was refused. Where several
+/// reasons apply it is the one with the lowest number.
+///
+/// ```
+/// use plus::{Answer, Chip};
+///
+/// let mut chip = Chip::new();
+/// let (answer, _) = chip.acknowledge();
+/// assert_eq!(answer, Answer::NoInterrupt);
+/// assert_eq!((answer.number(), answer.to_string()), (5, "no interrupt is waiting".to_string()));
+/// assert_eq!(answer.served(), Err(Answer::NoInterrupt)); // for `?`
+/// ```
+#[repr(u8)]
+#[non_exhaustive]
+#[derive(Clone, Copy, Debug, PartialEq, Eq, PartialOrd, Ord, Hash)]
+pub enum Answer {
+    /// The call was served.
+    Done = 0,
+    /// A lent buffer has the wrong length: page read and write, undo, export, line
+    /// step, drawing, forecast, playing a take.
+    WrongLength = 1,
+    /// The address is not of the page, or the page is not mapped: page read and
+    /// write.
+    NotMapped = 2,
+    /// Nothing takes the byte: writes to the page, the 6845's data port, 7Fxx. Or no
+    /// record has the number: a take's record.
+    NothingThere = 3,
+    /// The screen mode is 3: drawing.
+    ModeThree = 4,
+    /// No interrupt waits: acknowledge.
+    NoInterrupt = 5,
+    /// The list has no STOP up to the end of RAM: forecast.
+    NoStop = 6,
+    /// A line of the text is no word's: reading a listing.
+    NotListing = 7,
+    /// The buffer has no room for all of the text or of the words: printing a
+    /// listing, and reading one.
+    TooSmall = 8,
+    /// A converter is there, 6808h to 680Fh, which can only be read: page write.
+    ConverterThere = 9,
+    /// No page write is left to take back: undo.
+    NothingToUndo = 10,
+    /// The file is shorter than a trailer, or ends with other letters: opening and
+    /// playing a take, and its records.
+    NoTrailer = 11,
+    /// The records don't end where the trailer begins, by its offset and count:
+    /// opening and playing a take, and its records.
+    NotMet = 12,
+    /// A record is bad: writing, opening and playing a take.
+    BadRecord = 13,
+    /// The buffer has no room for the take, or its count or its offset has none in
+    /// 4 bytes: writing a take.
+    NoRoom = 14,
+}
 
-/// The address is not of the page, or the page is not mapped: page read and
-/// write.
-pub const NOT_MAPPED: u8 = 2;
+impl Answer {
+    /// All of them, each at its number's place.
+    pub const ALL: [Answer; 15] = [
+        Answer::Done,
+        Answer::WrongLength,
+        Answer::NotMapped,
+        Answer::NothingThere,
+        Answer::ModeThree,
+        Answer::NoInterrupt,
+        Answer::NoStop,
+        Answer::NotListing,
+        Answer::TooSmall,
+        Answer::ConverterThere,
+        Answer::NothingToUndo,
+        Answer::NoTrailer,
+        Answer::NotMet,
+        Answer::BadRecord,
+        Answer::NoRoom,
+    ];
 
-/// Nothing takes the byte: writes to the page, the 6845's data port, 7Fxx.
-pub const NOTHING_THERE: u8 = 3;
+    /// Its number, as the C interface has it.
+    pub const fn number(self) -> u8 {
+        self as u8
+    }
 
-/// The screen mode is 3: drawing.
-pub const MODE_THREE: u8 = 4;
+    /// Nothing where the call was served, else itself as an error.
+    pub fn served(self) -> Result<(), Answer> {
+        match self {
+            Answer::Done => Ok(()),
+            refusal => Err(refusal),
+        }
+    }
+}
 
-/// No interrupt waits: acknowledge.
-pub const NO_INTERRUPT: u8 = 5;
+impl From<Answer> for u8 {
+    fn from(answer: Answer) -> u8 {
+        answer.number()
+    }
+}
 
-/// The list has no STOP up to the end of RAM: forecast.
-pub const NO_STOP: u8 = 6;
+/// The answer of a number; the number itself where there is none.
+impl TryFrom<u8> for Answer {
+    type Error = u8;
 
-/// A line of the text is no word's: reading a listing.
-pub const NOT_LISTING: u8 = 7;
+    fn try_from(number: u8) -> Result<Answer, u8> {
+        let found = Answer::ALL.get(usize::from(number));
+        found.copied().ok_or(number)
+    }
+}
 
-/// The buffer has no room for all of the text or of the words: printing a
-/// listing, and reading one.
-pub const TOO_SMALL: u8 = 8;
+/// With its number.
+impl PartialEq<u8> for Answer {
+    fn eq(&self, number: &u8) -> bool {
+        self.number() == *number
+    }
+}
 
-/// A converter is there, 6808h to 680Fh, which can only be read: page write.
-pub const CONVERTER_THERE: u8 = 9;
+/// In the words of `plus_answer_text` of `include/plus.h`.
+impl fmt::Display for Answer {
+    fn fmt(&self, f: &mut fmt::Formatter) -> fmt::Result {
+        f.write_str(match self {
+            Answer::Done => "done",
+            Answer::WrongLength => "a buffer has another length than its call wants",
+            Answer::NotMapped => "the page is not mapped, or the address is not in it",
+            Answer::NothingThere => "no register there that could be written, or no such record",
+            Answer::ModeThree => "a line in screen mode 3 can't be drawn",
+            Answer::NoInterrupt => "no interrupt is waiting",
+            Answer::NoStop => "the list has no STOP up to the end of RAM",
+            Answer::NotListing => "a line of the text is no word's",
+            Answer::TooSmall => "the buffer has no room for all of it",
+            Answer::ConverterThere => "a converter is there, which can only be read",
+            Answer::NothingToUndo => "no page write is left that could be undone",
+            Answer::NoTrailer => "the file has no trailer",
+            Answer::NotMet => "the records don't end where the trailer begins",
+            Answer::BadRecord => "a record is bad",
+            Answer::NoRoom => "there is no room for the take",
+        })
+    }
+}
 
-/// No page write is left to take back: undo.
-pub const NOTHING_TO_UNDO: u8 = 10;
-
-/// The file is shorter than a trailer, or ends with other letters: opening and
-/// playing a take.
-pub const NO_TRAILER: u8 = 11;
-
-/// The records don't end where the trailer begins, by its offset and count:
-/// opening and playing a take.
-pub const NOT_MET: u8 = 12;
-
-/// A record is bad: writing, opening and playing a take.
-pub const BAD_RECORD: u8 = 13;
-
-/// The buffer has no room for the take, or its count or its offset has none in 4
-/// bytes: writing a take.
-pub const NO_ROOM: u8 = 14;
+impl Error for Answer {}

@@ -2,7 +2,7 @@
 
 use crate::ffi;
 use crate::state::{Aligned, State, Undo};
-use crate::{Access, PLACES};
+use crate::{version, Access, Answer, PLACES};
 use std::ops::{Deref, DerefMut};
 
 /// A chip, and its record of page writes. Its fields are those of [`State`].
@@ -28,6 +28,7 @@ pub struct Report {
 impl Chip {
     /// The chip after reset.
     pub fn new() -> Chip {
+        version::check();
         Chip::of(unsafe { ffi::plus_reset() }, [0; PLACES])
     }
 
@@ -44,40 +45,43 @@ impl Chip {
         **self = unsafe { ffi::plus_reset() };
     }
 
-    fn answered(&mut self, answered: ffi::Answered) -> u8 {
+    fn answered(&mut self, answered: ffi::Answered) -> Answer {
         **self = answered.chip;
         answered.answer
     }
 
     /// A byte to port BCxx: selects a 6845 register and feeds the lock.
     /// Answers 0.
-    pub fn write_bc(&mut self, byte: u8) -> u8 {
+    pub fn write_bc(&mut self, byte: u8) -> Answer {
         self.answered(unsafe { ffi::plus_write_bc(self.state, byte) })
     }
 
     /// A data byte to the selected 6845 register. Answers 0 or 3.
-    pub fn write_bd(&mut self, byte: u8) -> u8 {
+    #[must_use]
+    pub fn write_bd(&mut self, byte: u8) -> Answer {
         self.answered(unsafe { ffi::plus_write_bd(self.state, byte) })
     }
 
     /// A byte to port 7Fxx: maps the page in or out, or sets the mode. Answers
     /// 0 or 3.
-    pub fn write_7f(&mut self, byte: u8) -> u8 {
+    #[must_use]
+    pub fn write_7f(&mut self, byte: u8) -> Answer {
         self.answered(unsafe { ffi::plus_write_7f(self.state, byte) })
     }
 
     /// Reads the register page: the answer, 0, 1 or 2, and the byte, which is
     /// `bus` where nothing can be read.
-    pub fn page_read(&mut self, store: &[u8], address: u16, bus: u8) -> (u8, u8) {
+    #[must_use]
+    pub fn page_read(&self, store: &[u8], address: u16, bus: u8) -> (Answer, u8) {
         let read =
             unsafe { ffi::plus_page_read(self.state, store.as_ptr(), store.len(), address, bus) };
-        **self = read.chip;
         (read.answer, read.byte)
     }
 
     /// Writes the register page; a pixel goes into the store. A write that is
     /// served, but to DCSR, can be undone. Answers 0, 1, 2, 3 or 9.
-    pub fn page_write(&mut self, store: &mut [u8], address: u16, byte: u8) -> u8 {
+    #[must_use]
+    pub fn page_write(&mut self, store: &mut [u8], address: u16, byte: u8) -> Answer {
         let (store, length, places) = (store.as_mut_ptr(), store.len(), &mut self.places);
         let written =
             unsafe { ffi::plus_page_write(self.state, store, length, places, address, byte) };
@@ -87,7 +91,8 @@ impl Chip {
     /// Takes back the newest page write that is left: its register, or the pixel
     /// in the store, gets the contents it had before. Served whether or not the
     /// page is mapped and the chip unlocked. Answers 0, 1 or 10.
-    pub fn undo(&mut self, store: &mut [u8]) -> u8 {
+    #[must_use]
+    pub fn undo(&mut self, store: &mut [u8]) -> Answer {
         let (store, length) = (store.as_mut_ptr(), store.len());
         self.answered(unsafe { ffi::plus_undo(self.state, store, length, &self.places) })
     }
@@ -105,13 +110,15 @@ impl Chip {
     /// Exports the registers of the page but the pixels and DCSR: of each, by
     /// rising address, three bytes of `out` become its address, low byte first,
     /// and its contents. Answers 0 or 1.
-    pub fn export(&self, out: &mut [u8]) -> u8 {
+    #[must_use]
+    pub fn export(&self, out: &mut [u8]) -> Answer {
         unsafe { ffi::plus_export(self.state, out.as_mut_ptr(), out.len()) }
     }
 
     /// Serves the interrupt that comes first: the answer, 0 or 5, and the
     /// vector.
-    pub fn acknowledge(&mut self) -> (u8, u8) {
+    #[must_use]
+    pub fn acknowledge(&mut self) -> (Answer, u8) {
         let acknowledged = unsafe { ffi::plus_acknowledge(self.state) };
         **self = acknowledged.chip;
         (acknowledged.answer, acknowledged.vector)
@@ -120,7 +127,8 @@ impl Chip {
     /// One line: sound, raster compare, split compare, counters. `accesses` says
     /// what the processor does at the 8255, channel by channel, and changes the
     /// line's cycles alone. The answer, 0 or 1, and what the line did.
-    pub fn step(&mut self, ram: &[u8], accesses: [Access; 3]) -> (u8, Report) {
+    #[must_use]
+    pub fn step(&mut self, ram: &[u8], accesses: [Access; 3]) -> (Answer, Report) {
         let [first, second, third] = accesses;
         let (ram, length) = (ram.as_ptr(), ram.len());
         let stepped = unsafe { ffi::plus_step(self.state, ram, length, first, second, third) };
@@ -135,7 +143,8 @@ impl Chip {
 
     /// Draws the current line: each byte of `line` becomes the number of a
     /// palette entry. Answers 0, 1 or 4.
-    pub fn draw(&self, ram: &[u8], store: &[u8], line: &mut [u8]) -> u8 {
+    #[must_use]
+    pub fn draw(&self, ram: &[u8], store: &[u8], line: &mut [u8]) -> Answer {
         unsafe {
             ffi::plus_draw(
                 self.state,

@@ -2,33 +2,33 @@
 
 use crate::listing::{Printed, ReadBack};
 use crate::state::Aligned;
-use crate::take::{Opened, Record, Written, COUNTS};
-use crate::{Access, Length, State, PLACES};
+use crate::take::{Opened, Record, RecordRead, Written, COUNTS};
+use crate::version::Built;
+use crate::{Access, Answer, Length, State, PLACES};
 
 #[repr(C)]
 pub(crate) struct Answered {
     pub chip: State,
-    pub answer: u8,
+    pub answer: Answer,
 }
 
 #[repr(C)]
 pub(crate) struct Acknowledged {
     pub chip: State,
-    pub answer: u8,
+    pub answer: Answer,
     pub vector: u8,
 }
 
 #[repr(C)]
 pub(crate) struct ByteRead {
-    pub chip: State,
-    pub answer: u8,
+    pub answer: Answer,
     pub byte: u8,
 }
 
 #[repr(C)]
 pub(crate) struct Replayed {
     pub chip: State,
-    pub answer: u8,
+    pub answer: Answer,
     pub bad: usize,
     pub lines: u32,
     pub counts: [u32; COUNTS],
@@ -37,7 +37,7 @@ pub(crate) struct Replayed {
 #[repr(C)]
 pub(crate) struct Stepped {
     pub chip: State,
-    pub answer: u8,
+    pub answer: Answer,
     pub cycles: u8,
     pub kinds: [u8; 3],
     pub lows: [u16; 3],
@@ -45,7 +45,11 @@ pub(crate) struct Stepped {
 
 // `Aligned` has the layout of `State` but for its alignment, and goes in its
 // place where the C convention copies it to the stack.
+//
+// An `Answer` has the layout of its number, and every call is proved to answer one
+// of the table: in the version that `version::check` asks for these are the same.
 extern "C" {
+    pub(crate) fn plus_built() -> Built;
     pub(crate) fn plus_reset() -> State;
     pub(crate) fn plus_write_bc(chip: Aligned, byte: u8) -> Answered;
     pub(crate) fn plus_write_bd(chip: Aligned, byte: u8) -> Answered;
@@ -71,7 +75,7 @@ extern "C" {
         store_length: usize,
         places: &[u32; PLACES],
     ) -> Answered;
-    pub(crate) fn plus_export(chip: Aligned, out: *mut u8, out_length: usize) -> u8;
+    pub(crate) fn plus_export(chip: Aligned, out: *mut u8, out_length: usize) -> Answer;
     pub(crate) fn plus_acknowledge(chip: Aligned) -> Acknowledged;
     pub(crate) fn plus_step(
         chip: Aligned,
@@ -111,7 +115,11 @@ extern "C" {
         output_length: usize,
     ) -> Written;
     pub(crate) fn plus_take_open(file: *const u8, file_length: usize) -> Opened;
-    pub(crate) fn plus_take_record(file: *const u8, file_length: usize, number: usize) -> Record;
+    pub(crate) fn plus_take_record(
+        file: *const u8,
+        file_length: usize,
+        number: usize,
+    ) -> RecordRead;
     pub(crate) fn plus_replay(
         ram: *const u8,
         ram_length: usize,
@@ -129,5 +137,5 @@ extern "C" {
         store_length: usize,
         line: *mut u8,
         line_length: usize,
-    ) -> u8;
+    ) -> Answer;
 }

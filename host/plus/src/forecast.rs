@@ -1,13 +1,13 @@
 //! The forecast of a sound list.
 
-use crate::ffi;
+use crate::{ffi, version, Answer};
 
 /// The length of a sound list.
 #[repr(C)]
 #[derive(Clone, Copy, Debug, PartialEq, Eq)]
 pub struct Length {
-    /// The number answered: 0, 1 or 6.
-    pub answer: u8,
+    /// What was answered: number 0, 1 or 6.
+    pub answer: Answer,
     /// Lines from the first word through the STOP.
     pub lines: u64,
     /// The channel's own cycles over these lines if the processor disturbs no
@@ -23,7 +23,9 @@ pub struct Length {
 
 /// How long the list at a start address plays, without playing it. Bit 0 of the
 /// address is dropped.
+#[must_use]
 pub fn forecast(ram: &[u8], start: u16, prescale: u8) -> Length {
+    version::check();
     // SAFETY: the library reads only within the slice it is lent.
     unsafe { ffi::plus_forecast(ram.as_ptr(), ram.len(), start, prescale) }
 }

@@ -1,14 +1,15 @@
 //! The proved core of the Amstrad Plus chip, from Rust: a safe wrapper over
-//! `libplus.a`, whose C interface is `include/plus.h`.
+//! `libplus.a`, whose C interface is `include/plus.h`. The library is for x86-64
+//! Linux.
 //!
 //! A [`Chip`] is the whole state of one chip, held by value, with the record of
 //! page writes that can be undone; the library keeps nothing between calls. A
 //! host lends each call the buffers it needs: RAM of [`RAM`] bytes, the sprite
 //! pixel store of [`STORE`] bytes, a line of [`LINE`] bytes to draw into, and
-//! [`EXPORT`] bytes for an export. Every call answers one of the numbers in
-//! [`answer`]. With any other than [`answer::DONE`] the call was refused: chip
-//! and buffers are as they were, and all else in the answer is 0, but for the
-//! number of a bad line or a bad record.
+//! [`EXPORT`] bytes for an export. Every call gives an [`Answer`]. With any other
+//! than [`Answer::Done`] the call was refused: chip and buffers are as they were,
+//! and all else in the answer is 0, but for the number of a bad line or a bad
+//! record.
 //!
 //! [`listing`] prints a sound list as text and reads such a text back. [`take`]
 //! writes, opens and plays takes, and has a [`Recorder`](take::Recorder) that makes
@@ -17,35 +18,42 @@
 //! A sound list forecast, then played on channel 0 up to its STOP:
 //!
 //! ```
-//! use plus::{answer, forecast, Access, Chip, RAM, STORE, UNLOCK};
+//! use plus::{forecast, Access, Answer, Chip, RAM, STORE, UNLOCK};
 //!
 //! // LOAD 7 38h, PAUSE 2, STOP
 //! let (mut ram, mut store) = (vec![0; RAM], vec![0; STORE]);
 //! ram[0x8000..0x8006].copy_from_slice(&[0x38, 0x07, 0x02, 0x10, 0x20, 0x40]);
 //! let told = forecast(&ram, 0x8000, 0);
-//! assert_eq!((told.answer, told.lines, told.cycles), (answer::DONE, 4, 13));
+//! assert_eq!((told.answer, told.lines, told.cycles), (Answer::Done, 4, 13));
 //! assert_eq!(told.most, 15); // if the processor is in the way of the LOAD
 //!
 //! let mut chip = Chip::new();
-//! UNLOCK.map(|byte| chip.write_bc(byte));
-//! chip.write_7f(0xB8); // maps the register page in
+//! for byte in UNLOCK {
+//!     chip.write_bc(byte);
+//! }
+//! chip.write_7f(0xB8).served()?; // maps the register page in
 //! for (address, byte) in [(0x6C00, 0x00), (0x6C01, 0x80), (0x6C02, 0), (0x6C0F, 1)] {
-//!     assert_eq!(chip.page_write(&mut store, address, byte), answer::DONE);
+//!     chip.page_write(&mut store, address, byte).served()?;
 //! }
-//! assert_eq!(chip.page_read(&store, 0x6C0F, 0), (answer::DONE, 1)); // DCSR: enabled
+//! assert_eq!(chip.page_read(&store, 0x6C0F, 0), (Answer::Done, 1)); // DCSR: enabled
 //! for _ in 0..told.lines {
-//!     chip.step(&ram, [Access::Off; 3]);
+//!     let (answer, _report) = chip.step(&ram, [Access::Off; 3]);
+//!     answer.served()?;
 //! }
-//! assert_eq!(chip.page_read(&store, 0x6C0F, 0), (answer::DONE, 0)); // and off again
+//! assert_eq!(chip.page_read(&store, 0x6C0F, 0), (Answer::Done, 0)); // and off again
+//! # Ok::<(), Answer>(())
 //! ```
 //!
 //! A LOAD takes longer while the processor is on the 8255. RAM of zeros is all
 //! LOADs, and here the three channels execute one each on every line:
 //!
 //! ```
-//! # use plus::{Access, Chip, RAM};
+//! use plus::{Access, Chip, RAM};
+//!
 //! let mut chip = Chip::new();
-//! chip.sound.channels.each_mut().map(|channel| channel.enabled = true);
+//! for channel in &mut chip.sound.channels {
+//!     channel.enabled = true;
+//! }
 //! let lines = [Access::Off, Access::On, Access::PsgWrite].map(|access| {
 //!     let (_, report) = chip.step(&[0; RAM], [access; 3]);
 //!     report.cycles
@@ -57,24 +65,57 @@
 //! channel 2, and 6C0Ah is its prescale:
 //!
 //! ```
-//! # use plus::{answer, Chip, EXPORT, STORE, UNLOCK};
-//! # let (mut chip, mut store) = (Chip::new(), vec![0; STORE]);
-//! # UNLOCK.map(|byte| chip.write_bc(byte));
-//! # chip.write_7f(0xB8);
+//! use plus::{Answer, Chip, EXPORT, STORE, UNLOCK};
+//!
+//! let (mut chip, mut store) = (Chip::new(), vec![0; STORE]);
+//! for byte in UNLOCK {
+//!     chip.write_bc(byte);
+//! }
+//! chip.write_7f(0xB8).served()?;
 //! for prescale in [3, 5] {
-//!     assert_eq!(chip.page_write(&mut store, 0x6C0A, prescale), answer::DONE);
+//!     chip.page_write(&mut store, 0x6C0A, prescale).served()?;
 //! }
 //! assert!(chip.record().eq([(0x6C0A, 3), (0x6C0A, 0)])); // what each took the place of
-//! assert_eq!(chip.undo(&mut store), answer::DONE);
+//! chip.undo(&mut store).served()?;
 //! let mut out = [0; EXPORT];
-//! assert_eq!(chip.export(&mut out), answer::DONE);
+//! chip.export(&mut out).served()?;
 //! assert!(out.ends_with(&[0x0A, 0x6C, 3]));
+//! # Ok::<(), Answer>(())
+//! ```
+//!
+//! A slider sends an event for every step of a gesture, and each write is kept by
+//! itself: a long gesture would fill the record, and take as many undos to take
+//! back. To keep one entry a gesture, take back the last event's write before each
+//! further one. Between two events no other page write may be made, since undo would
+//! take back that one; and DCSR is not kept, so it needs none of this.
+//!
+//! ```
+//! use plus::{Answer, Chip, STORE, UNLOCK};
+//!
+//! let (mut chip, mut store) = (Chip::new(), vec![0; STORE]);
+//! for byte in UNLOCK {
+//!     chip.write_bc(byte);
+//! }
+//! chip.write_7f(0xB8).served()?;
+//! chip.page_write(&mut store, 0x6400, 0x70).served()?;
+//! for event in 0..300 {
+//!     if event > 0 {
+//!         chip.undo(&mut store).served()?;
+//!     }
+//!     chip.page_write(&mut store, 0x6400, event as u8).served()?;
+//! }
+//! assert!(chip.record().eq([(0x6400, 0x70), (0x6400, 0)])); // the gesture is one
+//! chip.undo(&mut store).served()?;
+//! assert_eq!(chip.palette[0], 0x70);
+//! # Ok::<(), Answer>(())
 //! ```
 
 #![warn(missing_docs)]
+// An example that would warn where it is copied fails.
+#![doc(test(attr(deny(warnings))))]
 
 mod access;
-pub mod answer;
+mod answer;
 mod chip;
 mod ffi;
 mod forecast;
@@ -83,8 +124,10 @@ pub mod listing;
 mod palette;
 mod state;
 pub mod take;
+mod version;
 
 pub use access::Access;
+pub use answer::Answer;
 pub use chip::{Chip, Report};
 pub use forecast::{forecast, Length};
 pub use palette::grey;
@@ -92,6 +135,7 @@ pub use state::{
     Channel, Counters, Crtc, Editing, Gate, Interrupts, Lock, Registers, Sound, Sprite, State,
     Undo, Video,
 };
+pub use version::{built, Built, VERSION};
 
 /// How many bytes of RAM a host lends.
 pub const RAM: usize = 65_536;

@@ -12,7 +12,7 @@
 //! assert_eq!(words_of(b"LOAD 7 38\nPAUSE 02\n"), Err(BadLine(2)));
 //! ```
 
-use crate::{answer, ffi};
+use crate::{ffi, version, Answer};
 use std::error::Error;
 use std::fmt;
 
@@ -23,8 +23,8 @@ pub const LONGEST_LINE: usize = 14;
 #[repr(C)]
 #[derive(Clone, Copy, Debug, PartialEq, Eq)]
 pub struct Printed {
-    /// The number answered: 0 or 8.
-    pub answer: u8,
+    /// What was answered: number 0 or 8.
+    pub answer: Answer,
     /// How many bytes of text were written.
     pub size: usize,
 }
@@ -33,8 +33,8 @@ pub struct Printed {
 #[repr(C)]
 #[derive(Clone, Copy, Debug, PartialEq, Eq)]
 pub struct ReadBack {
-    /// The number answered: 0, 7 or 8.
-    pub answer: u8,
+    /// What was answered: number 0, 7 or 8.
+    pub answer: Answer,
     /// How many words were written.
     pub count: usize,
     /// With 7 the number of the first bad line, from 1.
@@ -42,13 +42,17 @@ pub struct ReadBack {
 }
 
 /// Prints words into a buffer. What lies beyond the text stays.
+#[must_use]
 pub fn print(words: &[u16], text: &mut [u8]) -> Printed {
+    version::check();
     // SAFETY: the library reads and writes only within the slices it is lent.
     unsafe { ffi::plus_print(words.as_ptr(), words.len(), text.as_mut_ptr(), text.len()) }
 }
 
 /// Reads a text into a buffer. What lies beyond the words stays.
+#[must_use]
 pub fn read(text: &[u8], words: &mut [u16]) -> ReadBack {
+    version::check();
     // SAFETY: the library reads and writes only within the slices it is lent.
     unsafe { ffi::plus_read(text.as_ptr(), text.len(), words.as_mut_ptr(), words.len()) }
 }
@@ -57,7 +61,7 @@ pub fn read(text: &[u8], words: &mut [u16]) -> ReadBack {
 pub fn text_of(words: &[u16]) -> Vec<u8> {
     let mut text = vec![0; LONGEST_LINE * words.len()];
     let printed = print(words, &mut text);
-    debug_assert_eq!(printed.answer, answer::DONE);
+    debug_assert_eq!(printed.answer, Answer::Done);
     text.truncate(printed.size);
     text
 }
@@ -68,10 +72,10 @@ pub fn words_of(text: &[u8]) -> Result<Vec<u16>, BadLine> {
     let lines = text.iter().filter(|&&byte| byte == b'\n').count();
     let mut words = vec![0; lines];
     let read = read(text, &mut words);
-    if read.answer == answer::NOT_LISTING {
+    if read.answer == Answer::NotListing {
         return Err(BadLine(read.line));
     }
-    debug_assert_eq!((read.answer, read.count), (answer::DONE, lines));
+    debug_assert_eq!((read.answer, read.count), (Answer::Done, lines));
     Ok(words)
 }
 

@@ -3,10 +3,11 @@
 //! A file is a comment of any bytes, the records, and a trailer. A [`Record`] is
 //! one call with its line number, that is how many line steps were made from the
 //! reset up to it. A [`Recorder`] makes the records; [`file_of`] writes them,
-//! [`Take::open`] opens such a file, and [`replay`] plays it.
+//! [`Take::open`] opens such a file, and [`replay()`] plays it.
 //!
 //! ```
 //! use plus::take::{file_of, kind, Record, Refused, Take};
+//! use plus::Answer;
 //!
 //! let record = |line, kind, address, value| Record { line, kind, address, value };
 //! let records = [
@@ -23,7 +24,7 @@
 //!
 //! // A line number that falls.
 //! let bad = [records[2], records[0]];
-//! assert_eq!(file_of(b"", &bad), Err(Refused { answer: 13, record: 2 }));
+//! assert_eq!(file_of(b"", &bad), Err(Refused { answer: Answer::BadRecord, record: 2 }));
 //! # Ok::<(), Refused>(())
 //! ```
 
@@ -34,7 +35,7 @@ mod replay;
 pub use recorder::{Noted, Recorder, TooLate};
 pub use replay::{replay, Replayed, COUNTS};
 
-use crate::{answer, ffi};
+use crate::{ffi, version, Answer};
 use std::error::Error;
 use std::fmt;
 
@@ -65,8 +66,8 @@ pub struct Record {
 #[repr(C)]
 #[derive(Clone, Copy, Debug, PartialEq, Eq)]
 pub struct Written {
-    /// The number answered: 0, 13 or 14.
-    pub answer: u8,
+    /// What was answered: number 0, 13 or 14.
+    pub answer: Answer,
     /// How many bytes the file has.
     pub size: usize,
     /// With 13 the number of the first bad record, from 1.
@@ -77,8 +78,8 @@ pub struct Written {
 #[repr(C)]
 #[derive(Clone, Copy, Debug, PartialEq, Eq)]
 pub struct Opened {
-    /// The number answered: 0, 11, 12 or 13.
-    pub answer: u8,
+    /// What was answered: number 0, 11, 12 or 13.
+    pub answer: Answer,
     /// With 13 the number of the first bad record, from 1.
     pub bad: usize,
     /// How many records there are.
@@ -87,22 +88,36 @@ pub struct Opened {
     pub offset: usize,
 }
 
-/// A record as one number, in which it is lent to [`write`]: the number that its
+/// What asking for a record gives.
+#[repr(C)]
+#[derive(Clone, Copy, Debug, PartialEq, Eq)]
+pub struct RecordRead {
+    /// Served, or why not: 3, 11 or 12.
+    pub answer: Answer,
+    /// The record; where it is refused, the one that is all 0.
+    pub record: Record,
+}
+
+/// A record as one number, in which it is lent to [`write()`]: the number that its
 /// [`RECORD`] bytes say, low byte first.
 pub fn pack(record: Record) -> u64 {
+    version::check();
     // SAFETY: it takes and gives numbers.
     unsafe { ffi::plus_take_pack(record) }
 }
 
 /// The record in such a number. Every number has one.
 pub fn unpack(number: u64) -> Record {
+    version::check();
     // SAFETY: it takes and gives numbers.
     unsafe { ffi::plus_take_unpack(number) }
 }
 
 /// Writes a take into a buffer, its records lent as numbers. What lies beyond the
 /// file stays.
+#[must_use]
 pub fn write(comment: &[u8], records: &[u64], output: &mut [u8]) -> Written {
+    version::check();
     // SAFETY: the library reads and writes only within the slices it is lent.
     unsafe {
         ffi::plus_take_write(
@@ -117,15 +132,18 @@ pub fn write(comment: &[u8], records: &[u64], output: &mut [u8]) -> Written {
 }
 
 /// Tests a whole take, and says where its parts are.
+#[must_use]
 pub fn open(file: &[u8]) -> Opened {
+    version::check();
     // SAFETY: the library reads only within the slice it is lent.
     unsafe { ffi::plus_take_open(file.as_ptr(), file.len()) }
 }
 
-/// The record of a take with a number, from 1. With any other number than 1 to the
-/// count, and in a file that [`open`] answers 11 or 12 for, the record that is all
-/// 0, which has no kind.
-pub fn record_at(file: &[u8], number: usize) -> Record {
+/// The record of a take with a number, from 1. Refused with 11 or 12 where [`open`]
+/// answers that, and then with 3 for any other number than 1 to the count. Whether
+/// a record of the take is bad is not asked.
+pub fn record_at(file: &[u8], number: usize) -> RecordRead {
+    version::check();
     // SAFETY: the library reads only within the slice it is lent.
     unsafe { ffi::plus_take_record(file.as_ptr(), file.len(), number) }
 }
@@ -136,7 +154,7 @@ pub fn file_of(comment: &[u8], records: &[Record]) -> Result<Vec<u8>, Refused> {
     let numbers: Vec<u64> = records.iter().map(|&record| pack(record)).collect();
     let mut file = vec![0; comment.len() + RECORD * records.len() + TRAILER];
     let written = write(comment, &numbers, &mut file);
-    if written.answer != answer::DONE {
+    if written.answer != Answer::Done {
         return Err(Refused {
             answer: written.answer,
             record: written.bad,
@@ -158,7 +176,7 @@ impl<'a> Take<'a> {
     /// Opens a file. Refused with 11, 12 or 13.
     pub fn open(file: &'a [u8]) -> Result<Take<'a>, Refused> {
         let opened = open(file);
-        if opened.answer != answer::DONE {
+        if opened.answer != Answer::Done {
             return Err(Refused {
                 answer: opened.answer,
                 record: opened.bad,
@@ -179,26 +197,26 @@ impl<'a> Take<'a> {
     /// Its records, in their order.
     pub fn records(&self) -> impl ExactSizeIterator<Item = Record> + 'a {
         let file = self.file;
-        (0..self.count).map(move |before| record_at(file, before + 1))
+        (0..self.count).map(move |before| record_at(file, before + 1).record)
     }
 }
 
 /// A take that is not written, not opened or not played.
 #[derive(Clone, Copy, Debug, PartialEq, Eq)]
 pub struct Refused {
-    /// The number answered: 11 to 14, or 1.
-    pub answer: u8,
+    /// What was answered: number 11 to 14, or 1.
+    pub answer: Answer,
     /// With 13 the number of the first bad record, from 1, else 0.
     pub record: usize,
 }
 
 impl fmt::Display for Refused {
     fn fmt(&self, f: &mut fmt::Formatter) -> fmt::Result {
-        write!(f, "refused {}", self.answer)?;
-        match self.record {
-            0 => Ok(()),
-            record => write!(f, " record {record}"),
+        write!(f, "refused {}", self.answer.number())?;
+        if self.record != 0 {
+            write!(f, " record {}", self.record)?;
         }
+        write!(f, ": {}", self.answer)
     }
 }
 

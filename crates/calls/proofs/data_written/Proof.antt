@@ -1,4 +1,5 @@
 -- The line has the answer.
+use mathlib.Core.Path.{refl}
 use borrow.Author.Needs.{needs}
 use Rattle.calls.proofs.Serving.{answers}
 use Rattle.calls.proofs.data_written.Statement.{statement}
@@ -14,7 +15,8 @@ same-length : tie.Need-same-length
 same-length c = search needs
 
 returns : tie.Need-returns
-returns c = answers (c .before .before .before .before .write-bd .ensures) (c .before .before .answered .ensures)
+returns c ram store places =
+    answers (c .before .before .answered .ensures) (c .before .before .before .before .write-bd .ensures) ram store places refl refl
 
 pub data-written-spec : {M : Type 1} → statement M
 data-written-spec = tie.close (tie.spec write-bd-requires answered-requires same-length returns)

@@ -1,6 +1,4 @@
 -- Each letter's call, and its line.
-use mathlib.Core.Path.{refl}
-use Rattle.calls.specs.Calls.{outcome}
 use Rattle.calls.proofs.Serving.{by-letter, by-none}
 use borrow.Author.Needs.{needs}
 use Rattle.calls.proofs.serve.Statement.{statement}
@@ -18,8 +16,8 @@ gate-written-requires c κs = search needs
 page-written-requires : tie.Need-page-written-requires
 page-written-requires c κs = search needs
 
-read-requires : tie.Need-read-requires
-read-requires c κs = search needs
+page-shown-requires : tie.Need-page-shown-requires
+page-shown-requires c κs = search needs
 
 undone-requires : tie.Need-undone-requires
 undone-requires c κs = search needs
@@ -45,29 +43,26 @@ poked-requires c κs = search needs
 reset-requires : tie.Need-reset-requires
 reset-requires c κs = search needs
 
-unknown-requires : tie.Need-unknown-requires
-unknown-requires c κs = search needs
+not-known-requires : tie.Need-not-known-requires
+not-known-requires c κs = search needs
 
 same-length : tie.Need-same-length
 same-length c = search needs
 
 returns : tie.Need-returns
-unfolding outcome
-returns c = by-letter 66 (c .before .before .before .before .match .keys1) (c .before .before .selected .ensures) refl refl refl
+returns c = by-letter 66 (c .before .before .before .before .match .keys1) (c .before .before .selected .ensures _ _ _)
 
 same-length-2 : tie.Need-same-length-2
 same-length-2 c = search needs
 
 returns-2 : tie.Need-returns-2
-unfolding outcome
-returns-2 c = by-letter 68 (c .before .before .before .before .match .keys2) (c .before .before .data-written .ensures) refl refl refl
+returns-2 c = by-letter 68 (c .before .before .before .before .match .keys2) (c .before .before .data-written .ensures _ _ _)
 
 same-length-3 : tie.Need-same-length-3
 same-length-3 c = search needs
 
 returns-3 : tie.Need-returns-3
-unfolding outcome
-returns-3 c = by-letter 71 (c .before .before .before .before .match .keys3) (c .before .before .gate-written .ensures) refl refl refl
+returns-3 c = by-letter 71 (c .before .before .before .before .match .keys3) (c .before .before .gate-written .ensures _ _ _)
 
 same-length-4 : tie.Need-same-length-4
 same-length-4 c = search needs
@@ -76,8 +71,7 @@ same-length-5 : tie.Need-same-length-5
 same-length-5 c = search needs
 
 returns-4 : tie.Need-returns-4
-unfolding outcome
-returns-4 c = by-letter 87 (c .before .before .before .before .before .before .before .before .match .keys4) (c .before .before .before .before .page-written .ensures .0) refl (c .before .before .before .before .page-written .ensures .1 .0) (c .before .before .before .before .page-written .ensures .1 .1)
+returns-4 c = by-letter 87 (c .before .before .before .before .before .before .before .before .match .keys4) (c .before .before .before .before .page-written .ensures _)
 
 same-length-6 : tie.Need-same-length-6
 same-length-6 c = search needs
@@ -86,8 +80,7 @@ same-length-7 : tie.Need-same-length-7
 same-length-7 c = search needs
 
 returns-5 : tie.Need-returns-5
-unfolding outcome
-returns-5 c = by-letter 82 (c .before .before .before .before .before .match .keys5) (c .before .before .read .ensures) refl refl refl
+returns-5 c = by-letter 82 (c .before .before .before .before .before .match .keys5) (c .before .before .page-shown .ensures _ _)
 
 same-length-8 : tie.Need-same-length-8
 same-length-8 c = search needs
@@ -96,22 +89,19 @@ same-length-9 : tie.Need-same-length-9
 same-length-9 c = search needs
 
 returns-6 : tie.Need-returns-6
-unfolding outcome
-returns-6 c = by-letter 85 (c .before .before .before .before .before .before .before .before .match .keys6) (c .before .before .before .before .undone .ensures .0) refl (c .before .before .before .before .undone .ensures .1) refl
+returns-6 c = by-letter 85 (c .before .before .before .before .before .before .before .before .match .keys6) (c .before .before .before .before .undone .ensures _)
 
 same-length-10 : tie.Need-same-length-10
 same-length-10 c = search needs
 
 returns-7 : tie.Need-returns-7
-unfolding outcome
-returns-7 c = by-letter 69 (c .before .before .before .before .match .keys7) (c .before .before .exported .ensures) refl refl refl
+returns-7 c = by-letter 69 (c .before .before .before .before .match .keys7) (c .before .before .exported .ensures _ _ _)
 
 same-length-11 : tie.Need-same-length-11
 same-length-11 c = search needs
 
 returns-8 : tie.Need-returns-8
-unfolding outcome
-returns-8 c = by-letter 65 (c .before .before .before .before .match .keys8) (c .before .before .acknowledged .ensures) refl refl refl
+returns-8 c = by-letter 65 (c .before .before .before .before .match .keys8) (c .before .before .acknowledged .ensures _ _ _)
 
 same-length-12 : tie.Need-same-length-12
 same-length-12 c = search needs
@@ -120,8 +110,7 @@ same-length-13 : tie.Need-same-length-13
 same-length-13 c = search needs
 
 returns-9 : tie.Need-returns-9
-unfolding outcome
-returns-9 c = by-letter 76 (c .before .before .before .before .before .match .keys9) (c .before .before .stepped .ensures) refl refl refl
+returns-9 c = by-letter 76 (c .before .before .before .before .before .match .keys9) (c .before .before .stepped .ensures _ _)
 
 same-length-14 : tie.Need-same-length-14
 same-length-14 c = search needs
@@ -133,8 +122,7 @@ same-length-16 : tie.Need-same-length-16
 same-length-16 c = search needs
 
 returns-10 : tie.Need-returns-10
-unfolding outcome
-returns-10 c = by-letter 80 (c .before .before .before .before .before .before .match .keys10) (c .before .before .painted .ensures) refl refl refl
+returns-10 c = by-letter 80 (c .before .before .before .before .before .before .match .keys10) (c .before .before .painted .ensures _)
 
 same-length-17 : tie.Need-same-length-17
 same-length-17 c = search needs
@@ -143,8 +131,7 @@ same-length-18 : tie.Need-same-length-18
 same-length-18 c = search needs
 
 returns-11 : tie.Need-returns-11
-unfolding outcome
-returns-11 c = by-letter 70 (c .before .before .before .before .before .match .keys11) (c .before .before .foretold .ensures) refl refl refl
+returns-11 c = by-letter 70 (c .before .before .before .before .before .match .keys11) (c .before .before .foretold .ensures _ _)
 
 same-length-19 : tie.Need-same-length-19
 same-length-19 c = search needs
@@ -153,21 +140,19 @@ same-length-20 : tie.Need-same-length-20
 same-length-20 c = search needs
 
 returns-12 : tie.Need-returns-12
-unfolding outcome
-returns-12 c = by-letter 77 (c .before .before .before .before .before .before .before .match .keys12) (c .before .before .before .before .poked .ensures .0) (c .before .before .before .before .poked .ensures .1) refl refl
+returns-12 c = by-letter 77 (c .before .before .before .before .before .before .before .match .keys12) (c .before .before .before .before .poked .ensures _ _)
 
 same-length-21 : tie.Need-same-length-21
 same-length-21 c = search needs
 
 returns-13 : tie.Need-returns-13
-unfolding outcome
-returns-13 c = by-letter 90 (c .before .before .before .before .match .keys13) (c .before .before .reset .ensures) refl refl refl
+returns-13 c = by-letter 90 (c .before .before .before .before .match .keys13) (c .before .before .reset .ensures _ _ _ _)
 
 same-length-22 : tie.Need-same-length-22
 same-length-22 c = search needs
 
 returns-14 : tie.Need-returns-14
-returns-14 c = by-none (c .before .before .before .before .match .rest) (c .before .before .unknown .ensures)
+returns-14 c = by-none (c .before .before .before .before .match .rest) (c .before .before .not-known .ensures _ _ _)
 
 pub serve-spec : {M : Type 1} → statement M
 serve-spec =
@@ -177,7 +162,7 @@ serve-spec =
     data-written-requires
     gate-written-requires
     page-written-requires
-    read-requires
+    page-shown-requires
     undone-requires
     exported-requires
     acknowledged-requires
@@ -186,7 +171,7 @@ serve-spec =
     foretold-requires
     poked-requires
     reset-requires
-    unknown-requires
+    not-known-requires
     same-length
     returns
     same-length-2

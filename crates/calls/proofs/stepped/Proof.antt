@@ -1,6 +1,6 @@
 -- The line of the answer.
 use borrow.Author.Needs.{needs}
-use Rattle.calls.specs.Calls.{lineStepLine}
+use Rattle.runs.proofs.Worlds.{stepping}
 use Rattle.calls.proofs.stepped.Statement.{statement}
 use Rattle.calls.proofs.stepped.Tie as tie
 
@@ -17,12 +17,11 @@ same-length : tie.Need-same-length
 same-length c = search needs
 
 returns : tie.Need-returns
-unfolding lineStepLine
-returns c =
+returns c store places =
     let called = c .before .before .before .before .before .before in
     let told = rw (called .before .accesses-in .ensures) at (called .step .ensures) in
     record {
-      chip = told .chip;
+      world = stepping store places told;
       puts = simp (told .answer, told .report) at (c .before .before .stepped .ensures .0);
       bound = search needs;
     }

@@ -1,5 +1,5 @@
 -- The line has the answer.
-use Rattle.calls.proofs.Serving.{answers}
+use Rattle.calls.proofs.Serving.{undoes}
 use borrow.Author.Needs.{needs}
 use Rattle.calls.proofs.undone.Statement.{statement}
 use Rattle.calls.proofs.undone.Tie as tie
@@ -18,8 +18,7 @@ same-length-2 c = search needs
 
 returns : tie.Need-returns
 returns c =
-    let took = c .before .before .before .before .before .before .undo .ensures in
-    (answers (took .call) (c .before .before .answered .ensures), took .store-after)
+    undoes (c .before .before .answered .ensures) (c .before .before .before .before .before .before .undo .ensures)
 
 pub undone-spec : {M : Type 1} → statement M
 undone-spec =

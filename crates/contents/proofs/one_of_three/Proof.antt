@@ -1,5 +1,5 @@
 -- `contents::one_of_three`: past the last channel stands one that is off.
-use mathlib.Core.Path.{_≡_, ap, sym, _∙_}
+use mathlib.Core.Path.{ap, sym, _∙_}
 use lib.ListN.{List·getD-eq-default}
 use Rattle.sound.specs.declared.Channel.{Channel}
 use Rattle.sound.specs.Line.{offChannel}

@@ -1,5 +1,5 @@
 -- `contents::sprite_contents`: past the last sprite stands one that is off.
-use mathlib.Core.Path.{_≡_, ap, sym, _∙_}
+use mathlib.Core.Path.{ap, sym, _∙_}
 use lib.ListN.{List·getD-eq-default}
 use Rattle.picture.specs.declared.sprite.Sprite.{Sprite}
 use Rattle.picture.specs.Sprites.{offSprite, spriteContents}

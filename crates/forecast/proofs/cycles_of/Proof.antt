@@ -1,8 +1,6 @@
 -- `forecast::cycles_of`: a LOAD, or any other word.
 use borrow.Author.Needs.{needs}
 use mathlib.Core.Path.{sym}
-use native.Mathlib.Omega.{arith}
-use Rattle.sound.proofs.Laws.{two-at-most}
 use Rattle.forecast.specs.Rule.{cyclesOf}
 use Rattle.forecast.proofs.cycles_of.Statement.{statement}
 use Rattle.forecast.proofs.cycles_of.Tie as tie

@@ -3,19 +3,20 @@ use borrow.Author.Needs.{needs}
 use mathlib.Core.Path.{_≡_, refl}
 use Prim.Native.Nat.{_≤_, _-_}
 use lib.ListN.{length, take}
-use Rattle.listing.specs.Passes.{Written}
+use Rattle.common.specs.Storing.{Puts}
+use Rattle.listing.specs.Text.{textOf}
 use Rattle.listing.proofs.Texts.{written-more, written-all}
 use Rattle.listing.proofs.written.Statement.{statement}
 use Rattle.listing.proofs.written.Tie as tie
 
 abbrev Inv-loop : tie.InvT-loop
-Inv-loop words text₀ at₀ i₀ text at i = (i ≤ length words) × (length text ≡ length text₀) × Written (take i words) text₀ text at
+Inv-loop words text₀ at₀ i₀ text at i = (i ≤ length words) × (length text ≡ length text₀) × Puts text₀ 0 (textOf (take i words)) text at
 
 abbrev μ-loop : tie.MeasureT-loop
 μ-loop words text₀ at₀ i₀ text at i = length words - i
 
 loop-holds : tie.Need-loop-holds Inv-loop μ-loop
-loop-holds c = (search needs, refl, record { sized = refl; buffer = refl })
+loop-holds c = (search needs, refl, record { place = refl; stored = refl })
 
 mul-put-line : tie.Need-mul-put-line Inv-loop μ-loop
 mul-put-line c = search needs

@@ -1,5 +1,5 @@
 -- `page::page_read`: a refusal gives 0 for the byte, else the register that is decoded is read.
-use mathlib.Core.Path.{_≡_, refl, sym, _∙_}
+use mathlib.Core.Path.{_≡_, sym, _∙_}
 use lib.ListN.{length}
 use borrow.Author.Needs.{needs}
 use borrow.Author.Tests.{ne-eqb}
@@ -19,7 +19,6 @@ returns : tie.Need-returns
 returns c =
     record {
       answer = c .before .read-answer .ensures;
-      chip = refl;
       byte = simp (ne-eqb _ _ (rw (c .before .read-answer .ensures) at (c .if1 .taken)));
     }
 
@@ -34,7 +33,6 @@ returns-2 c =
     let zero = served (c .before .before) in
     record {
       answer = sym zero;
-      chip = refl;
       byte = simp (c .register-read .ensures, c .before .register-at .ensures, zero);
     }
 

@@ -27,7 +27,7 @@ returns c =
     record {
       told = c .before .before .forecast .ensures;
       offset = simp refused;
-      length = simp refused;
+      size = simp refused;
       list = simp refused;
     }
 
@@ -48,7 +48,7 @@ returns-2 c =
     record {
       told = c .before .before .before .forecast .ensures;
       offset = simp (served c);
-      length = simp (served c, lent c);
+      size = simp (served c, lent c);
       list = simp (served c, lent c, list-part);
     }
 

@@ -19,14 +19,11 @@ row-of-requires c κs = search needs
 put-list-requires : tie.Need-put-list-requires Inv-loop μ-loop
 put-list-requires c κs = search needs
 
-played-requires : tie.Need-played-requires Inv-loop μ-loop
-played-requires c κs = search needs
+row-played-requires : tie.Need-row-played-requires Inv-loop μ-loop
+row-played-requires c κs = search needs
 
-stepped-on-requires : tie.Need-stepped-on-requires Inv-loop μ-loop
-stepped-on-requires c κs = search needs
-
-print-length-requires : tie.Need-print-length-requires Inv-loop μ-loop
-print-length-requires c κs = search needs
+print-requires : tie.Need-print-requires Inv-loop μ-loop
+print-requires c κs = search needs
 
 add-n : tie.Need-add-n Inv-loop μ-loop
 add-n c = search needs
@@ -49,9 +46,8 @@ main-spec =
     loop-holds
     row-of-requires
     put-list-requires
-    played-requires
-    stepped-on-requires
-    print-length-requires
+    row-played-requires
+    print-requires
     add-n
     loop-less
     loop-again

@@ -6,14 +6,14 @@ use Rattle.plus_run.proofs.block_played.Tie as tie
 read-full-requires : tie.Need-read-full-requires
 read-full-requires c κs = search needs
 
-slice-reshare-prefix-records : tie.Need-slice-reshare-prefix-records
-slice-reshare-prefix-records c = search needs
+slice-reshare-prefix-orders : tie.Need-slice-reshare-prefix-orders
+slice-reshare-prefix-orders c = search needs
 
-slice-aggregate-records : tie.Need-slice-aggregate-records
-slice-aggregate-records c = search needs
+slice-aggregate-orders : tie.Need-slice-aggregate-orders
+slice-aggregate-orders c = search needs
 
-records-requires : tie.Need-records-requires
-records-requires c κs = search needs
+orders-requires : tie.Need-orders-requires
+orders-requires c κs = search needs
 
 same-length : tie.Need-same-length
 same-length c = search needs
@@ -53,9 +53,9 @@ block-played-spec =
     tie.close
     (tie.spec
     read-full-requires
-    slice-reshare-prefix-records
-    slice-aggregate-records
-    records-requires
+    slice-reshare-prefix-orders
+    slice-aggregate-orders
+    orders-requires
     same-length
     same-length-2
     same-length-3

@@ -1,15 +1,15 @@
 -- The line fits, and no buffer changes its length.
 use native.Mathlib.Omega.{arith}
 use borrow.Author.Needs.{needs}
-use Rattle.plus_run.proofs.Playing.{served-record}
+use Rattle.plus_run.proofs.Serving.{served-order}
 use Rattle.plus_run.proofs.turn.Statement.{statement}
 use Rattle.plus_run.proofs.turn.Tie as tie
 
 with-room-requires : tie.Need-with-room-requires
 with-room-requires c κs = search needs
 
-record-at-requires : tie.Need-record-at-requires
-record-at-requires c κs = search needs
+order-at-requires : tie.Need-order-at-requires
+order-at-requires c κs = search needs
 
 serve-requires : tie.Need-serve-requires
 serve-requires c κs = search needs
@@ -26,15 +26,15 @@ same-length-3 c = search needs
 returns : tie.Need-returns
 returns c =
     let s = c .before .before .before .before .before .before .serve in
-    let r = c .before .before .before .before .before .before .before .record-at .ensures in
+    let r = c .before .before .before .before .before .before .before .order-at .ensures in
     let ready = c .before .before .before .before .before .before .before .before .before .before .before .before .with-room in
     let start = c .before .before .before .before .before .before .before .before .before .before .before .before .before .before .before .before .before .before in (
       record {
-        within = omega (arith, s .ensures .told .bound, ready .ensures .room, s .kept .1 .1 .1 .1 .0);
+        within = omega (arith, s .ensures .does .bound, ready .ensures .room, s .kept .1 .1 .1 .1 .0);
         buffer = omega (arith, s .kept .1 .1 .1 .1 .0, start .pre .0 .buffer);
         memory = omega (arith, s .kept .1 .0, start .pre .0 .memory);
       },
-      served-record (ready .ensures .chip) r (s .ensures),
+      served-order (ready .ensures .chip) r (s .ensures),
     )
 
 pub turn-spec : {M : Type 1} → statement M
@@ -42,7 +42,7 @@ turn-spec =
     tie.close
     (tie.spec
     with-room-requires
-    record-at-requires
+    order-at-requires
     serve-requires
     same-length
     same-length-2

@@ -2,8 +2,7 @@
 use mathlib.Core.Path.{_≡_, refl, sym, _∙_, ap}
 use Prim.Native.Nat.{_+_, _-_}
 use borrow.Author.Needs.{needs}
-use Rattle.replay.specs.Replay.{linesOn}
-use Rattle.replay.specs.Parts.{moved}
+use Rattle.replay.specs.Parts.{moved, linesOn}
 use Rattle.replay.proofs.Lines.{parts-moved, line-more, lines-end}
 use Rattle.replay.proofs.lines_on.Statement.{statement}
 use Rattle.replay.proofs.lines_on.Tie as tie

@@ -5,28 +5,34 @@ use native.Mathlib.Omega.{arith}
 use borrow.Author.Needs.{needs}
 use lib.ListN.{length}
 use Rattle.take.specs.Open.{recordsOf}
-use Rattle.replay.specs.Replay.{fresh, played}
-use Rattle.replay.specs.Parts.{playedBy}
+use Rattle.replay.specs.Replay.{fresh, replayed}
+use Rattle.replay.specs.Parts.{progressBy}
 use Rattle.replay.proofs.Playing.{Playing, starts, found-is, after-is, ends, place-on, room-left, goes-on}
 use Rattle.replay.proofs.records.Statement.{statement}
 use Rattle.replay.proofs.records.Tie as tie
 
 abbrev Inv-loop : tie.InvT-loop
-Inv-loop ram store₀ places₀ file first at₀ p₀ store places at p =
+Inv-loop ram store₀ places₀ file at₀ p₀ store places at p =
     (length store ≡ length store₀)
-    × Playing ram file (played ram (fresh store₀ places₀) (recordsOf file)) (playedBy p store places) at
+    × Playing file (replayed (fresh ram store₀ places₀) (recordsOf file)) (progressBy p ram store places) at
 
 abbrev μ-loop : tie.MeasureT-loop
-μ-loop ram store₀ places₀ file first at₀ p₀ store places at p = length file - at
+μ-loop ram store₀ places₀ file at₀ p₀ store places at p = length file - at
+
+first-place-requires : tie.Need-first-place-requires Inv-loop μ-loop
+first-place-requires c κs = search needs
 
 begun-requires : tie.Need-begun-requires Inv-loop μ-loop
 begun-requires c κs = search needs
 
 loop-holds : tie.Need-loop-holds Inv-loop μ-loop
 loop-holds c =
-    let s = c .before .before .before .before in
-    let b = c .begun .ensures in
-    (refl, rw (b .chip, b .number, b .none) (starts (s .args .ram .now) (s .args .store .now) (s .args .places .now) (s .pre .1)))
+    let s = c .before .before .before .before .before in
+    let b = c .begun .ensures in (
+      refl,
+      rw (b .chip, b .number, b .none)
+          (starts (s .args .ram .now) (s .args .store .now) (s .args .places .now) (s .pre .0) (s .pre .1) (c .before .first-place .ensures)),
+    )
 
 advance-requires : tie.Need-advance-requires Inv-loop μ-loop
 advance-requires c κs = search needs
@@ -46,8 +52,8 @@ returns c =
     let l = a .before .loop .inv .1 in
     ends l (found-is l (a .advance .ensures) (c .enum-told .given .1))
 
-played-one-requires : tie.Need-played-one-requires Inv-loop μ-loop
-played-one-requires c κs =
+record-replayed-requires : tie.Need-record-replayed-requires Inv-loop μ-loop
+record-replayed-requires c κs =
     let f = c .before .before .before in
     let a = f .before .before in
     let l = a .before .loop .inv .1 in
@@ -68,7 +74,7 @@ loop-again c =
     let a = f .before .before in
     let l = a .before .loop .inv .1 in (
       search needs,
-      goes-on l (found-is l (a .advance .ensures) (f .found .given .1)) (n .played-one .ensures) (after-is l (a .advance .ensures)),
+      goes-on l (found-is l (a .advance .ensures) (f .found .given .1)) (n .record-replayed .ensures) (l .full) (after-is l (a .advance .ensures)),
     )
 
 pub records-spec : {M : Type 1} → statement M
@@ -77,6 +83,7 @@ records-spec =
     (tie.spec
     Inv-loop
     μ-loop
+    first-place-requires
     begun-requires
     loop-holds
     advance-requires
@@ -84,6 +91,6 @@ records-spec =
     enum-told
     same-length
     returns
-    played-one-requires
+    record-replayed-requires
     loop-less
     loop-again)

@@ -4,9 +4,8 @@ use borrow.Author.Tests.{lt-ltb, le-ltb}
 use mathlib.Core.Path.{_≡_, sym, _∙_}
 use mathlib.Core.List.{List}
 use Prim.Native.Nat.{ℕ, _+_, _<_, _≤_}
-use lib.ListN.{length, take, drop}
-use Rattle.take.specs.Bytes.{numberOf}
-use Rattle.take.specs.Record.{unpacked}
+use lib.ListN.{length, drop}
+use Rattle.take.specs.Record.{unpacked, recordIn}
 use Rattle.take.specs.Open.{recordFrom}
 use Rattle.take.proofs.record_from.Statement.{statement}
 use Rattle.take.proofs.record_from.Tie as tie
@@ -15,7 +14,7 @@ past : (file : List ℕ) (at : ℕ) → length file < at + 8 → recordFrom file
 unfolding recordFrom
 past file at h = simp (lt-ltb (length file) (at + 8) h)
 
-whole : (file : List ℕ) (at : ℕ) → at + 8 ≤ length file → recordFrom file at ≡ unpacked (numberOf (take 8 (drop at file)))
+whole : (file : List ℕ) (at : ℕ) → at + 8 ≤ length file → recordFrom file at ≡ recordIn (drop at file)
 unfolding recordFrom
 whole file at h = simp (le-ltb (length file) (at + 8) h)
 

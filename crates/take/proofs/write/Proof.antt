@@ -1,6 +1,7 @@
--- `take::write`: the answer, then the file.
+-- `take::write`: the answer, then the file, which reads back.
 use borrow.Author.Needs.{needs}
 use Rattle.take.proofs.Writing.{answer-room, not-written, written}
+use Rattle.take.proofs.Files.{written-back}
 use Rattle.take.proofs.write.Statement.{statement}
 use Rattle.take.proofs.write.Tie as tie
 
@@ -13,7 +14,7 @@ answer-requires c κs = search needs
 returns : tie.Need-returns
 returns c =
     let a = c .before in
-    not-written _ _ _ (a .before .of-numbers .ensures) (a .answer .ensures) (c .if1 .taken)
+    written-back (not-written _ _ _ (a .before .of-numbers .ensures) (a .answer .ensures) (c .if1 .taken))
 
 put-file-requires : tie.Need-put-file-requires
 put-file-requires c κs =
@@ -28,7 +29,7 @@ returns-2 c =
     let p = c .before .before in
     let e = p .before .before in
     let a = e .before in
-    written _ _ _ (a .before .of-numbers .ensures) (a .answer .ensures) (e .if1 .left) (p .put-file .ensures)
+    written-back (written _ _ _ (a .before .of-numbers .ensures) (a .answer .ensures) (e .if1 .left) (p .put-file .ensures))
 
 pub write-spec : {M : Type 1} → statement M
 write-spec =

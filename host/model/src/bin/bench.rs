@@ -1,8 +1,9 @@
 //! bench: core against model, side by side in one run: nanoseconds a call, and
-//! their ratio.
+//! their ratio; then a frame of the core from Rust, and from C as `examples/c`
+//! has it (`make -C examples/c frame` builds that).
 //! bench CASE core|model COUNT: that many calls of one case and nothing else, to
 //! be counted by callgrind. bench names: the cases, each with the calls of a timed
-//! run.
+//! run. bench c: the second table alone.
 
 use model::chip::{self, Model};
 use model::random::{any_records, mixed_word, Random};
@@ -12,7 +13,7 @@ use plus::take::{self, kind, Record};
 use plus::{Chip, EXPORT, LINE, PLACES, RAM, STORE, UNLOCK};
 use std::env;
 use std::hint::black_box;
-use std::process::ExitCode;
+use std::process::{Command, ExitCode};
 use std::time::{Duration, Instant};
 
 /// What a case calls.
@@ -345,14 +346,14 @@ macro_rules! calls_of {
                     for byte in UNLOCK {
                         machine.write_bc(byte);
                     }
-                    machine.write_7f(0xB8);
+                    black_box(machine.write_7f(0xB8));
                     for _ in 0..STRETCHES {
-                        machine.page_write(&mut lent.store, 0x6C0F, 7);
+                        black_box(machine.page_write(&mut lent.store, 0x6C0F, 7));
                         for _ in 0..STRETCH {
                             black_box(machine.step(&lent.ram, [$off; 3]));
                         }
                     }
-                    machine.write_7f(0x80);
+                    black_box(machine.write_7f(0x80));
                 }),
             }
             black_box((
@@ -411,6 +412,45 @@ fn table() {
     }
 }
 
+/// The program of `examples/c`.
+const FROM_C: &str = concat!(env!("CARGO_MANIFEST_DIR"), "/../../target/examples/c/frame");
+
+/// A sum over a line drawn on the core after so many frames, as the program in C
+/// has it.
+fn sum(case: &Case, frames: usize) -> u64 {
+    let (mut chip, mut lent) = (set_up::<Chip>(case), lent());
+    for _ in 0..312 * frames {
+        black_box(chip.step(&lent.ram, [plus::Access::Off; 3]));
+    }
+    black_box(chip.draw(&lent.ram, &lent.store, &mut lent.line));
+    let address = u64::from(chip.sound.channels[0].address);
+    let add = |sum: u64, &entry: &u8| sum.wrapping_mul(31).wrapping_add(entry.into());
+    lent.line.iter().fold(address, add) & 0xFFFF_FFFF
+}
+
+/// The time that a frame takes from C, which has drawn what is drawn from Rust.
+fn run_c(case: &Case, count: usize) -> Duration {
+    let arguments = [case.sprites.to_string(), count.to_string()];
+    let ran = Command::new(FROM_C).args(arguments).output();
+    let ran = ran.expect("`make -C examples/c frame` has built it");
+    let text = String::from_utf8_lossy(&ran.stdout);
+    let mut numbers = text.split_whitespace().map(|word| word.parse::<u64>());
+    let (Some(Ok(took)), Some(Ok(drawn))) = (numbers.next(), numbers.next()) else {
+        panic!("{FROM_C}: {}", String::from_utf8_lossy(&ran.stderr));
+    };
+    assert_eq!(drawn, sum(case, count), "C and Rust draw the same");
+    Duration::from_nanos(took)
+}
+
+fn table_of_c() {
+    println!("\n| case | from Rust, ns | from C, ns | ratio |\n|---|---|---|---|");
+    for case in CASES.iter().filter(|case| matches!(case.work, Work::Frame)) {
+        let (name, rust) = (case.name, nanoseconds(run_core, case));
+        let c = nanoseconds(run_c, case);
+        println!("| {name} | {rust:.0} | {c:.0} | {:.2} |", c / rust);
+    }
+}
+
 /// One case's run, as the arguments name it.
 fn one_case(arguments: &[String]) -> Option<()> {
     let [case, which, count] = arguments else {
@@ -430,12 +470,15 @@ fn main() -> ExitCode {
     let arguments: Vec<String> = env::args().skip(1).collect();
     if arguments.is_empty() {
         table();
+        table_of_c();
+    } else if arguments == ["c"] {
+        table_of_c();
     } else if arguments == ["names"] {
         for case in &CASES {
             println!("{}\t{}", case.name, case.count);
         }
     } else if one_case(&arguments).is_none() {
-        eprintln!("bench [names | CASE core|model COUNT]");
+        eprintln!("bench [c | names | CASE core|model COUNT]");
         return ExitCode::from(2);
     }
     ExitCode::SUCCESS

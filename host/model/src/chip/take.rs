@@ -123,11 +123,14 @@ pub fn take_open(file: &[u8]) -> (u8, usize, usize, usize) {
     }
 }
 
-/// The record of a number from 1, or none of any kind.
-pub fn take_record(file: &[u8], number: usize) -> Record {
-    let found = || {
-        let (_, records) = parts(file).ok()?;
-        records.get(number.checked_sub(1)?).copied()
-    };
-    found().unwrap_or_default()
+/// The record of a number from 1: the answer, and the record or one of no kind.
+pub fn take_record(file: &[u8], number: usize) -> (u8, Record) {
+    let found = parts(file).and_then(|(_, records)| {
+        let record = number.checked_sub(1).and_then(|n| records.get(n).copied());
+        record.ok_or(answer::NOTHING_THERE)
+    });
+    match found {
+        Ok(record) => (answer::DONE, record),
+        Err(refusal) => (refusal, Record::default()),
+    }
 }

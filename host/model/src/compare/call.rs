@@ -1,7 +1,7 @@
 //! One call of a script, made on a machine.
 
 use crate::machine::Machine;
-use plus::{Access, Length, Report};
+use plus::{Access, Answer, Length, Report};
 
 /// Bytes that follow each buffer, for lengths above the right one.
 pub const SPARE: usize = 16;
@@ -60,26 +60,26 @@ pub enum Call {
     },
 }
 
-/// All that a call answers.
+/// All that a call gives back.
 #[derive(Clone, Copy, Debug, PartialEq, Eq)]
-pub enum Answer {
+pub enum Reply {
     /// Of a reset, and of a byte put into RAM.
     Nothing,
-    Number(u8),
-    /// The number, and the byte read or the vector.
-    Byte(u8, u8),
-    Line(u8, Report),
+    Answer(Answer),
+    /// The answer, and the byte read or the vector.
+    Byte(Answer, u8),
+    Line(Answer, Report),
     Length(Length),
 }
 
-impl Answer {
+impl Reply {
     pub fn number(&self) -> u8 {
         match *self {
-            Answer::Nothing => 0,
-            Answer::Number(number) => number,
-            Answer::Byte(number, _) => number,
-            Answer::Line(number, _) => number,
-            Answer::Length(length) => length.answer,
+            Reply::Nothing => 0,
+            Reply::Answer(answer) => answer.number(),
+            Reply::Byte(answer, _) => answer.number(),
+            Reply::Line(answer, _) => answer.number(),
+            Reply::Length(length) => length.answer.number(),
         }
     }
 }
@@ -120,51 +120,51 @@ impl Call {
     }
 
     /// Makes it on a machine.
-    pub fn make<M: Machine>(self, machine: &mut M, lent: &mut Buffers) -> Answer {
+    pub fn make<M: Machine>(self, machine: &mut M, lent: &mut Buffers) -> Reply {
         match self {
             Call::Reset => {
                 machine.reset();
-                Answer::Nothing
+                Reply::Nothing
             }
-            Call::WriteBc(byte) => Answer::Number(machine.write_bc(byte)),
-            Call::WriteBd(byte) => Answer::Number(machine.write_bd(byte)),
-            Call::Write7f(byte) => Answer::Number(machine.write_7f(byte)),
+            Call::WriteBc(byte) => Reply::Answer(machine.write_bc(byte)),
+            Call::WriteBd(byte) => Reply::Answer(machine.write_bd(byte)),
+            Call::Write7f(byte) => Reply::Answer(machine.write_7f(byte)),
             Call::PageRead {
                 store,
                 address,
                 bus,
             } => {
                 let (number, byte) = machine.page_read(&lent.store[..store], address, bus);
-                Answer::Byte(number, byte)
+                Reply::Byte(number, byte)
             }
             Call::PageWrite {
                 store,
                 address,
                 byte,
-            } => Answer::Number(machine.page_write(&mut lent.store[..store], address, byte)),
-            Call::Undo { store } => Answer::Number(machine.undo(&mut lent.store[..store])),
-            Call::Export { out } => Answer::Number(machine.export(&mut lent.export[..out])),
+            } => Reply::Answer(machine.page_write(&mut lent.store[..store], address, byte)),
+            Call::Undo { store } => Reply::Answer(machine.undo(&mut lent.store[..store])),
+            Call::Export { out } => Reply::Answer(machine.export(&mut lent.export[..out])),
             Call::Acknowledge => {
                 let (number, vector) = machine.acknowledge();
-                Answer::Byte(number, vector)
+                Reply::Byte(number, vector)
             }
             Call::Step { ram, accesses } => {
                 let (number, report) = machine.step(&lent.ram[..ram], accesses);
-                Answer::Line(number, report)
+                Reply::Line(number, report)
             }
             Call::Forecast {
                 ram,
                 start,
                 prescale,
-            } => Answer::Length(M::forecast(&lent.ram[..ram], start, prescale)),
-            Call::Draw { ram, store, line } => Answer::Number(machine.draw(
+            } => Reply::Length(M::forecast(&lent.ram[..ram], start, prescale)),
+            Call::Draw { ram, store, line } => Reply::Answer(machine.draw(
                 &lent.ram[..ram],
                 &lent.store[..store],
                 &mut lent.line[..line],
             )),
             Call::Ram { address, byte } => {
                 lent.ram[address as usize] = byte;
-                Answer::Nothing
+                Reply::Nothing
             }
         }
     }

@@ -25,7 +25,7 @@ pub fn changed_texts<M: Machine>(count: u64, seed: u64) -> Result<Answers, Strin
         words.resize_with(1 + length, || mixed_word(&mut random));
         let text = changed(&mut random, &list::<M>(&words)?);
         let back = read::<M>(&text, length + random.below(3) as usize)?;
-        answers[usize::from(back.answer)] += 1;
+        answers[back.answer as usize] += 1;
     }
     Ok(answers)
 }

@@ -8,7 +8,7 @@ use super::{differ, Buffers, Call};
 use crate::machine::{Machine, Replay};
 use crate::random::{changed_take, Random};
 use plus::take::{file_of, kind, Noted, Record, Recorder, Take, COUNTS};
-use plus::{answer, Access, Chip, RAM, STORE};
+use plus::{Access, Answer, Chip, RAM, STORE};
 
 /// How many takes were played, what they answered, and how often each number
 /// refused a call.
@@ -78,9 +78,9 @@ pub fn note(call: Call, recorder: &mut Recorder, lent: &mut Buffers) -> bool {
         Call::Undo { store } => recorder.undo(&mut lent.store[..store]),
         Call::Acknowledge => recorder.acknowledge().0,
         Call::Step { ram, accesses } => {
-            return recorder.step(&lent.ram[..ram], accesses).0 == answer::DONE
+            return recorder.step(&lent.ram[..ram], accesses).0 == Answer::Done
         }
-        _ => 0,
+        _ => Answer::Done,
     };
     false
 }
@@ -168,11 +168,11 @@ impl Tally {
 
         // The recorder's last lines have no call behind them.
         for _ in core.replay.lines..lines {
-            core.replay.chip.step(&lent.ram[..RAM], [Access::Off; 3]);
+            let _ = core.replay.chip.step(&lent.ram[..RAM], [Access::Off; 3]);
         }
         core.replay.lines = lines;
         let expected = Replay {
-            answer: answer::DONE,
+            answer: Answer::Done,
             bad: 0,
             chip: Chip::clone(&recorder),
             lines,
@@ -214,7 +214,7 @@ impl Tally {
         core.differs(&Given::<M>::new(ram, store, file))?;
         self.takes += 1;
         self.lines += u64::from(core.replay.lines);
-        self.answers[usize::from(core.replay.answer)] += 1;
+        self.answers[core.replay.answer as usize] += 1;
         for (sum, count) in self.counts.iter_mut().zip(core.replay.counts) {
             *sum += u64::from(count);
         }

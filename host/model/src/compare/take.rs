@@ -10,11 +10,12 @@ use std::fmt::Debug;
 /// How often a call gave each answer number.
 pub type Answers = [u64; 15];
 
-/// What was answered to the writer, and to the reader.
+/// What was answered to the writer, to opening, and where a record was asked for.
 #[derive(Clone, Copy, Debug, Default)]
 pub struct Tally {
     pub written: Answers,
     pub opened: Answers,
+    pub read: Answers,
 }
 
 /// Random takes written and opened, and then the file of each with one byte
@@ -121,19 +122,22 @@ impl Tally {
             let written = take::write(comment, &numbers, &mut core);
             let expected = M::take_write(comment, &numbers, &mut other);
             same((comment, records), (written, core), (expected, other))?;
-            self.written[usize::from(written.answer)] += 1;
+            self.written[written.answer as usize] += 1;
         }
         Ok(())
     }
 
-    /// Opens on both, and looks at each record and at those beside them.
+    /// Opens on both, and asks for each record and for those beside them, also of a
+    /// file that is refused.
     fn open<M: Machine>(&mut self, file: &[u8]) -> Result<(), String> {
         let opened = take::open(file);
         same(file, opened, M::take_open(file))?;
-        self.opened[usize::from(opened.answer)] += 1;
-        for number in (0..=file.len() / RECORD).chain([usize::MAX]) {
-            let record = take::record_at(file, number);
-            same((file, number), record, M::take_record(file, number))?;
+        self.opened[opened.answer as usize] += 1;
+        let far = [1 << 32, 1 << 61, usize::MAX];
+        for number in (0..=file.len() / RECORD).chain(far) {
+            let read = take::record_at(file, number);
+            same((file, number), read, M::take_record(file, number))?;
+            self.read[read.answer as usize] += 1;
         }
         Ok(())
     }

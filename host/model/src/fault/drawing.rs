@@ -1,13 +1,13 @@
 //! Faults of the drawn line.
 
 use crate::machine::Fault;
-use plus::Chip;
+use plus::{Answer, Chip};
 
 /// The highest-numbered opaque sprite is shown.
 pub struct HighestSpriteFirst;
 
 impl Fault for HighestSpriteFirst {
-    fn draw(chip: &mut Chip, ram: &[u8], store: &[u8], line: &mut [u8]) -> u8 {
+    fn draw(chip: &mut Chip, ram: &[u8], store: &[u8], line: &mut [u8]) -> Answer {
         let mut turned = chip.clone();
         turned.sprites.reverse();
         let pixels: Vec<u8> = store.rchunks(256).flatten().copied().collect();
@@ -19,7 +19,7 @@ impl Fault for HighestSpriteFirst {
 pub struct ScrollOf3Bits;
 
 impl Fault for ScrollOf3Bits {
-    fn draw(chip: &mut Chip, ram: &[u8], store: &[u8], line: &mut [u8]) -> u8 {
+    fn draw(chip: &mut Chip, ram: &[u8], store: &[u8], line: &mut [u8]) -> Answer {
         let mut scrolled = chip.clone();
         scrolled.video.sscr &= 0xF7;
         scrolled.draw(ram, store, line)
@@ -30,7 +30,7 @@ impl Fault for ScrollOf3Bits {
 pub struct ModeThreeDrawn;
 
 impl Fault for ModeThreeDrawn {
-    fn draw(chip: &mut Chip, ram: &[u8], store: &[u8], line: &mut [u8]) -> u8 {
+    fn draw(chip: &mut Chip, ram: &[u8], store: &[u8], line: &mut [u8]) -> Answer {
         let mut drawn = chip.clone();
         drawn.gate.mode = drawn.gate.mode.min(2);
         drawn.draw(ram, store, line)

@@ -1,12 +1,12 @@
 //! Faults of the export.
 
 use crate::machine::Fault;
-use plus::{answer, Chip, EXPORT};
+use plus::{Answer, Chip, EXPORT};
 
 /// An export, and then something more to its bytes, if it was served.
-fn exported_and(chip: &Chip, out: &mut [u8], more: impl FnOnce(&mut [u8])) -> u8 {
+fn exported_and(chip: &Chip, out: &mut [u8], more: impl FnOnce(&mut [u8])) -> Answer {
     let answer = chip.export(out);
-    if answer == answer::DONE {
+    if answer == Answer::Done {
         more(out);
     }
     answer
@@ -16,7 +16,7 @@ fn exported_and(chip: &Chip, out: &mut [u8], more: impl FnOnce(&mut [u8])) -> u8
 pub struct XHighAsRead;
 
 impl Fault for XHighAsRead {
-    fn export(chip: &mut Chip, out: &mut [u8]) -> u8 {
+    fn export(chip: &mut Chip, out: &mut [u8]) -> Answer {
         exported_and(chip, out, |out| {
             for (five, sprite) in out.chunks_exact_mut(15).zip(chip.sprites) {
                 if sprite.x < 0 {
@@ -31,7 +31,7 @@ impl Fault for XHighAsRead {
 pub struct MagnificationAtMirror;
 
 impl Fault for MagnificationAtMirror {
-    fn export(chip: &mut Chip, out: &mut [u8]) -> u8 {
+    fn export(chip: &mut Chip, out: &mut [u8]) -> Answer {
         exported_and(chip, out, |out| {
             for five in out.chunks_exact_mut(15).take(16) {
                 five[12] += 3;
@@ -44,7 +44,7 @@ impl Fault for MagnificationAtMirror {
 pub struct HighAddressFirst;
 
 impl Fault for HighAddressFirst {
-    fn export(chip: &mut Chip, out: &mut [u8]) -> u8 {
+    fn export(chip: &mut Chip, out: &mut [u8]) -> Answer {
         exported_and(chip, out, |out| {
             for three in out.chunks_exact_mut(3) {
                 three.swap(0, 1);
@@ -57,7 +57,7 @@ impl Fault for HighAddressFirst {
 pub struct StartOneWordBack;
 
 impl Fault for StartOneWordBack {
-    fn export(chip: &mut Chip, out: &mut [u8]) -> u8 {
+    fn export(chip: &mut Chip, out: &mut [u8]) -> Answer {
         let mut before = chip.clone();
         for channel in &mut before.sound.channels {
             channel.address = channel.address.wrapping_sub(2);
@@ -70,7 +70,7 @@ impl Fault for StartOneWordBack {
 pub struct NoPrescales;
 
 impl Fault for NoPrescales {
-    fn export(chip: &mut Chip, out: &mut [u8]) -> u8 {
+    fn export(chip: &mut Chip, out: &mut [u8]) -> Answer {
         let mut without = chip.clone();
         for channel in &mut without.sound.channels {
             channel.prescale = 0;
@@ -83,9 +83,9 @@ impl Fault for NoPrescales {
 pub struct ExportedThoughRefused;
 
 impl Fault for ExportedThoughRefused {
-    fn export(chip: &mut Chip, out: &mut [u8]) -> u8 {
+    fn export(chip: &mut Chip, out: &mut [u8]) -> Answer {
         let mut whole = [0; EXPORT];
-        chip.export(&mut whole);
+        let _ = chip.export(&mut whole);
         for (byte, exported) in out.iter_mut().zip(whole) {
             *byte = exported;
         }

@@ -1,13 +1,13 @@
 //! Faults of the acknowledge.
 
 use crate::machine::Fault;
-use plus::Chip;
+use plus::{Answer, Chip};
 
 /// Channel 0 is served before channel 2.
 pub struct LowestFirst;
 
 impl Fault for LowestFirst {
-    fn acknowledge(chip: &mut Chip) -> (u8, u8) {
+    fn acknowledge(chip: &mut Chip) -> (Answer, u8) {
         let [zero, _, two] = chip.sound.channels.map(|channel| channel.interrupt);
         if chip.interrupts.raster || !zero || !two {
             return chip.acknowledge();
@@ -26,7 +26,7 @@ impl Fault for LowestFirst {
 pub struct AlwaysCleared;
 
 impl Fault for AlwaysCleared {
-    fn acknowledge(chip: &mut Chip) -> (u8, u8) {
+    fn acknowledge(chip: &mut Chip) -> (Answer, u8) {
         let ivr = chip.interrupts.ivr;
         chip.interrupts.ivr &= 0xFE;
         let served = chip.acknowledge();

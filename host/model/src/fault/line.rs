@@ -1,16 +1,16 @@
 //! Faults of the raster, the split and the counters.
 
 use crate::machine::Fault;
-use plus::{answer, Access, Chip, Report, RAM};
+use plus::{Access, Answer, Chip, Report, RAM};
 
 /// A step that is refused steps all the same.
 pub struct SteppedThoughRefused;
 
 impl Fault for SteppedThoughRefused {
-    fn step(chip: &mut Chip, ram: &[u8], accesses: [Access; 3]) -> (u8, Report) {
+    fn step(chip: &mut Chip, ram: &[u8], accesses: [Access; 3]) -> (Answer, Report) {
         let stepped = chip.step(ram, accesses);
-        if stepped.0 != answer::DONE {
-            chip.step(&[0; RAM], accesses);
+        if stepped.0 != Answer::Done {
+            let _ = chip.step(&[0; RAM], accesses);
         }
         stepped
     }
@@ -20,10 +20,10 @@ impl Fault for SteppedThoughRefused {
 pub struct RasterInAdjust;
 
 impl Fault for RasterInAdjust {
-    fn step(chip: &mut Chip, ram: &[u8], accesses: [Access; 3]) -> (u8, Report) {
+    fn step(chip: &mut Chip, ram: &[u8], accesses: [Access; 3]) -> (Answer, Report) {
         let mut outside = chip.clone();
         outside.crtc.counters.adjust = false;
-        outside.step(ram, accesses);
+        let _ = outside.step(ram, accesses);
         let stepped = chip.step(ram, accesses);
         chip.interrupts.raster = outside.interrupts.raster;
         stepped
@@ -34,7 +34,7 @@ impl Fault for RasterInAdjust {
 pub struct SplitLateInAdjust;
 
 impl Fault for SplitLateInAdjust {
-    fn step(chip: &mut Chip, ram: &[u8], accesses: [Access; 3]) -> (u8, Report) {
+    fn step(chip: &mut Chip, ram: &[u8], accesses: [Access; 3]) -> (Answer, Report) {
         let counters = chip.crtc.counters;
         let here = counters.vc % 32 * 8 + counters.rc % 8;
         if counters.adjust && chip.video.split_line != 0 && chip.video.split_line == here {
@@ -50,10 +50,10 @@ impl Fault for SplitLateInAdjust {
 pub struct SplitOnFirstLine;
 
 impl Fault for SplitOnFirstLine {
-    fn step(chip: &mut Chip, ram: &[u8], accesses: [Access; 3]) -> (u8, Report) {
+    fn step(chip: &mut Chip, ram: &[u8], accesses: [Access; 3]) -> (Answer, Report) {
         let stepped = chip.step(ram, accesses);
         let counters = &mut chip.crtc.counters;
-        if stepped.0 == answer::DONE && counters.held {
+        if stepped.0 == Answer::Done && counters.held {
             counters.address = counters.split;
             (counters.held, counters.split) = (false, 0);
         }
@@ -65,7 +65,7 @@ impl Fault for SplitOnFirstLine {
 pub struct AdvanceByRcAlone;
 
 impl Fault for AdvanceByRcAlone {
-    fn step(chip: &mut Chip, ram: &[u8], accesses: [Access; 3]) -> (u8, Report) {
+    fn step(chip: &mut Chip, ram: &[u8], accesses: [Access; 3]) -> (Answer, Report) {
         let sscr = chip.video.sscr;
         chip.video.sscr = 0;
         let stepped = chip.step(ram, accesses);

@@ -1,8 +1,8 @@
 //! Faults of the printer and of the reader.
 
 use crate::machine::Fault;
-use plus::answer;
 use plus::listing::{print, read, text_of, words_of, Printed, ReadBack, LONGEST_LINE};
+use plus::Answer;
 
 /// Prints words by lines that are made anew.
 fn printed_as(words: &[u16], text: &mut [u8], anew: impl Fn(Vec<u8>) -> Vec<u8>) -> Printed {
@@ -13,7 +13,7 @@ fn printed_as(words: &[u16], text: &mut [u8], anew: impl Fn(Vec<u8>) -> Vec<u8>)
     }
     text[..wrong.len()].copy_from_slice(&wrong);
     Printed {
-        answer: answer::DONE,
+        answer: Answer::Done,
         size: wrong.len(),
     }
 }
@@ -87,7 +87,7 @@ impl Fault for RoomForLongest {
     fn print(words: &[u16], text: &mut [u8]) -> Printed {
         if text.len() < LONGEST_LINE * words.len() {
             return Printed {
-                answer: answer::TOO_SMALL,
+                answer: Answer::TooSmall,
                 size: 0,
             };
         }
@@ -101,7 +101,7 @@ pub struct PartPrinted;
 impl Fault for PartPrinted {
     fn print(words: &[u16], text: &mut [u8]) -> Printed {
         let printed = print(words, text);
-        if printed.answer == answer::TOO_SMALL {
+        if printed.answer == Answer::TooSmall {
             let part = text_of(words);
             let room = text.len();
             text.copy_from_slice(&part[..room]);
@@ -116,7 +116,7 @@ pub struct BeyondCleared;
 impl Fault for BeyondCleared {
     fn print(words: &[u16], text: &mut [u8]) -> Printed {
         let printed = print(words, text);
-        if printed.answer == answer::DONE {
+        if printed.answer == Answer::Done {
             text[printed.size..].fill(0);
         }
         printed
@@ -203,7 +203,7 @@ impl Fault for RoomBeforeForm {
         let lines = text.split_inclusive(|&byte| byte == b'\n').count();
         if lines > words.len() {
             return ReadBack {
-                answer: answer::TOO_SMALL,
+                answer: Answer::TooSmall,
                 count: 0,
                 line: 0,
             };
@@ -229,7 +229,7 @@ pub struct PartRead;
 impl Fault for PartRead {
     fn read(text: &[u8], words: &mut [u16]) -> ReadBack {
         let back = read(text, words);
-        if back.answer == answer::NOT_LISTING {
+        if back.answer == Answer::NotListing {
             let lines = text.split_inclusive(|&byte| byte == b'\n');
             for (place, line) in words.iter_mut().zip(lines.take(back.line - 1)) {
                 *place = words_of(line).unwrap()[0];

@@ -1,15 +1,15 @@
 //! Faults of the register page.
 
 use crate::machine::Fault;
-use plus::{answer, Chip};
+use plus::{Answer, Chip};
 
 /// The store keeps a pixel's whole byte: only the buffer shows it.
 pub struct WholePixel;
 
 impl Fault for WholePixel {
-    fn page_write(chip: &mut Chip, store: &mut [u8], address: u16, byte: u8) -> u8 {
+    fn page_write(chip: &mut Chip, store: &mut [u8], address: u16, byte: u8) -> Answer {
         let answer = chip.page_write(store, address, byte);
-        if answer == answer::DONE && (0x4000..0x5000).contains(&address) {
+        if answer == Answer::Done && (0x4000..0x5000).contains(&address) {
             store[address as usize - 0x4000] = byte;
         }
         answer
@@ -20,9 +20,9 @@ impl Fault for WholePixel {
 pub struct HighByteOfBits;
 
 impl Fault for HighByteOfBits {
-    fn page_read(chip: &mut Chip, store: &[u8], address: u16, bus: u8) -> (u8, u8) {
+    fn page_read(chip: &mut Chip, store: &[u8], address: u16, bus: u8) -> (Answer, u8) {
         match (chip.page_read(store, address, bus), address % 8) {
-            ((answer::DONE, 0xFF), 1) if (0x6000..0x6080).contains(&address) => (answer::DONE, 3),
+            ((Answer::Done, 0xFF), 1) if (0x6000..0x6080).contains(&address) => (Answer::Done, 3),
             (read, _) => read,
         }
     }
@@ -32,12 +32,12 @@ impl Fault for HighByteOfBits {
 pub struct NoMirrors;
 
 impl Fault for NoMirrors {
-    fn page_write(chip: &mut Chip, store: &mut [u8], address: u16, byte: u8) -> u8 {
+    fn page_write(chip: &mut Chip, store: &mut [u8], address: u16, byte: u8) -> Answer {
         let before = chip.clone();
         let answer = chip.page_write(store, address, byte);
-        if answer == answer::DONE && (0x6000..0x6080).contains(&address) && address % 8 > 4 {
+        if answer == Answer::Done && (0x6000..0x6080).contains(&address) && address % 8 > 4 {
             *chip = before;
-            return answer::NOTHING_THERE;
+            return Answer::NothingThere;
         }
         answer
     }
@@ -47,9 +47,9 @@ impl Fault for NoMirrors {
 pub struct OneKindOfNothing;
 
 impl Fault for OneKindOfNothing {
-    fn page_write(chip: &mut Chip, store: &mut [u8], address: u16, byte: u8) -> u8 {
+    fn page_write(chip: &mut Chip, store: &mut [u8], address: u16, byte: u8) -> Answer {
         match chip.page_write(store, address, byte) {
-            answer::CONVERTER_THERE => answer::NOTHING_THERE,
+            Answer::ConverterThere => Answer::NothingThere,
             answer => answer,
         }
     }
@@ -59,9 +59,9 @@ impl Fault for OneKindOfNothing {
 pub struct LengthLast;
 
 impl Fault for LengthLast {
-    fn page_read(chip: &mut Chip, store: &[u8], address: u16, bus: u8) -> (u8, u8) {
+    fn page_read(chip: &mut Chip, store: &[u8], address: u16, bus: u8) -> (Answer, u8) {
         match chip.page_read(store, address, bus) {
-            (answer::WRONG_LENGTH, _) if !chip.gate.mapped => (answer::NOT_MAPPED, 0),
+            (Answer::WrongLength, _) if !chip.gate.mapped => (Answer::NotMapped, 0),
             read => read,
         }
     }
@@ -71,9 +71,9 @@ impl Fault for LengthLast {
 pub struct PauseEndedByStart;
 
 impl Fault for PauseEndedByStart {
-    fn page_write(chip: &mut Chip, store: &mut [u8], address: u16, byte: u8) -> u8 {
+    fn page_write(chip: &mut Chip, store: &mut [u8], address: u16, byte: u8) -> Answer {
         let answer = chip.page_write(store, address, byte);
-        if answer == answer::DONE && (0x6C00..0x6C0C).contains(&address) && address % 4 < 2 {
+        if answer == Answer::Done && (0x6C00..0x6C0C).contains(&address) && address % 4 < 2 {
             chip.sound.channels[address as usize % 16 / 4].pause = 0;
         }
         answer
@@ -84,7 +84,7 @@ impl Fault for PauseEndedByStart {
 pub struct PauseRestartedByDisable;
 
 impl Fault for PauseRestartedByDisable {
-    fn page_write(chip: &mut Chip, store: &mut [u8], address: u16, byte: u8) -> u8 {
+    fn page_write(chip: &mut Chip, store: &mut [u8], address: u16, byte: u8) -> Answer {
         let before = chip.sound.channels;
         let answer = chip.page_write(store, address, byte);
         for (was, channel) in before.iter().zip(&mut chip.sound.channels) {

@@ -2,11 +2,11 @@
 //! numbers of cycles.
 
 use crate::machine::Fault;
-use plus::{answer, kind, Access, Chip, Length, Report};
+use plus::{kind, Access, Answer, Chip, Length, Report};
 
 /// A step in which a channel that is reported to have done one of these things
 /// costs more by what the processor does.
-fn disturbed(chip: &mut Chip, ram: &[u8], accesses: [Access; 3], kinds: &[u8]) -> (u8, Report) {
+fn disturbed(chip: &mut Chip, ram: &[u8], accesses: [Access; 3], kinds: &[u8]) -> (Answer, Report) {
     let (answer, mut report) = chip.step(ram, accesses);
     for (reported, access) in report.kinds.into_iter().zip(accesses) {
         if kinds.contains(&reported) {
@@ -20,7 +20,7 @@ fn disturbed(chip: &mut Chip, ram: &[u8], accesses: [Access; 3], kinds: &[u8]) -
 pub struct PauseDisturbed;
 
 impl Fault for PauseDisturbed {
-    fn step(chip: &mut Chip, ram: &[u8], accesses: [Access; 3]) -> (u8, Report) {
+    fn step(chip: &mut Chip, ram: &[u8], accesses: [Access; 3]) -> (Answer, Report) {
         disturbed(chip, ram, accesses, &[kind::PAUSE])
     }
 }
@@ -29,7 +29,7 @@ impl Fault for PauseDisturbed {
 pub struct OthersDisturbed;
 
 impl Fault for OthersDisturbed {
-    fn step(chip: &mut Chip, ram: &[u8], accesses: [Access; 3]) -> (u8, Report) {
+    fn step(chip: &mut Chip, ram: &[u8], accesses: [Access; 3]) -> (Answer, Report) {
         let others = [kind::REPEAT, kind::CONTROL, kind::NOTHING];
         disturbed(chip, ram, accesses, &others)
     }
@@ -39,7 +39,7 @@ impl Fault for OthersDisturbed {
 pub struct SatOutDisturbed;
 
 impl Fault for SatOutDisturbed {
-    fn step(chip: &mut Chip, ram: &[u8], accesses: [Access; 3]) -> (u8, Report) {
+    fn step(chip: &mut Chip, ram: &[u8], accesses: [Access; 3]) -> (Answer, Report) {
         disturbed(chip, ram, accesses, &[kind::SAT_OUT])
     }
 }
@@ -48,7 +48,7 @@ impl Fault for SatOutDisturbed {
 pub struct OnTakesTwo;
 
 impl Fault for OnTakesTwo {
-    fn step(chip: &mut Chip, ram: &[u8], accesses: [Access; 3]) -> (u8, Report) {
+    fn step(chip: &mut Chip, ram: &[u8], accesses: [Access; 3]) -> (Answer, Report) {
         let taken = |access| match access {
             Access::On => Access::PsgWrite,
             access => access,
@@ -61,7 +61,7 @@ impl Fault for OnTakesTwo {
 pub struct AccessOfChannel1;
 
 impl Fault for AccessOfChannel1 {
-    fn step(chip: &mut Chip, ram: &[u8], accesses: [Access; 3]) -> (u8, Report) {
+    fn step(chip: &mut Chip, ram: &[u8], accesses: [Access; 3]) -> (Answer, Report) {
         let [_, second, third] = accesses;
         chip.step(ram, [second, second, third])
     }
@@ -71,7 +71,7 @@ impl Fault for AccessOfChannel1 {
 pub struct AccessesIgnored;
 
 impl Fault for AccessesIgnored {
-    fn step(chip: &mut Chip, ram: &[u8], _: [Access; 3]) -> (u8, Report) {
+    fn step(chip: &mut Chip, ram: &[u8], _: [Access; 3]) -> (Answer, Report) {
         chip.step(ram, [Access::Off; 3])
     }
 }
@@ -80,7 +80,7 @@ impl Fault for AccessesIgnored {
 pub struct LoadLost;
 
 impl Fault for LoadLost {
-    fn step(chip: &mut Chip, ram: &[u8], accesses: [Access; 3]) -> (u8, Report) {
+    fn step(chip: &mut Chip, ram: &[u8], accesses: [Access; 3]) -> (Answer, Report) {
         let psg = chip.sound.psg;
         let stepped = chip.step(ram, accesses);
         if accesses.contains(&Access::PsgWrite) {
@@ -131,7 +131,7 @@ pub struct MostThoughRefused;
 impl Fault for MostThoughRefused {
     fn forecast(ram: &[u8], start: u16, prescale: u8) -> Length {
         let mut told = plus::forecast(ram, start, prescale);
-        if told.answer != answer::DONE {
+        if told.answer != Answer::Done {
             told.most = 2;
         }
         told

@@ -3,7 +3,7 @@
 use crate::by_hand::ByHand;
 use crate::machine::Fault;
 use plus::take::{open, record_at, replay, Record, Replayed, Take};
-use plus::{answer, Access, Chip};
+use plus::{Access, Answer, Chip};
 
 /// Plays a take that is served by other rules, from a chip after reset.
 fn played_by(
@@ -79,7 +79,7 @@ impl Fault for CountedTogether {
         let mut replayed = replay(ram, store, file);
         let sum = replayed.counts.iter().sum();
         replayed.counts.fill(0);
-        replayed.counts[usize::from(answer::NOTHING_THERE)] = sum;
+        replayed.counts[Answer::NothingThere as usize] = sum;
         replayed
     }
 }
@@ -115,7 +115,7 @@ impl Fault for OneLineMore {
         played_by(ram, store, file, |by_hand, records| {
             for record in records {
                 if by_hand.lines < record.line {
-                    by_hand.chip.step(ram, [Access::Off; 3]);
+                    let _ = by_hand.chip.step(ram, [Access::Off; 3]);
                 }
                 by_hand.play(record);
             }
@@ -146,7 +146,7 @@ impl Fault for TakeBeforeLengths {
     fn replay(ram: &[u8], store: &mut [u8], file: &[u8]) -> Replayed {
         let mut replayed = replay(ram, store, file);
         let opened = open(file);
-        if opened.answer != answer::DONE {
+        if opened.answer != Answer::Done {
             (replayed.answer, replayed.bad) = (opened.answer, opened.bad);
         }
         replayed
@@ -159,12 +159,12 @@ pub struct PlayedUpToBad;
 impl Fault for PlayedUpToBad {
     fn replay(ram: &[u8], store: &mut [u8], file: &[u8]) -> Replayed {
         let refused = replay(ram, store, file);
-        if refused.answer != answer::BAD_RECORD {
+        if refused.answer != Answer::BadRecord {
             return refused;
         }
         let mut by_hand = ByHand::<Chip>::new(ram, store);
         for number in 1..refused.bad {
-            by_hand.play(record_at(file, number));
+            by_hand.play(record_at(file, number).record);
         }
         Replayed {
             chip: by_hand.end().chip,

@@ -1,7 +1,7 @@
 //! Faults of the channels and of the forecast.
 
 use crate::machine::Fault;
-use plus::{kind, Access, Chip, Length, Report};
+use plus::{kind, Access, Answer, Chip, Length, Report};
 
 /// A step, and then the loop counter of each channel that met a REPEAT K made
 /// anew, from its counter before and K.
@@ -10,7 +10,7 @@ fn recounted(
     ram: &[u8],
     accesses: [Access; 3],
     counter: impl Fn(u16, u16) -> u16,
-) -> (u8, Report) {
+) -> (Answer, Report) {
     let before = chip.sound.channels;
     let (answer, report) = chip.step(ram, accesses);
     for (n, channel) in chip.sound.channels.iter_mut().enumerate() {
@@ -25,7 +25,7 @@ fn recounted(
 pub struct RepeatKTimes;
 
 impl Fault for RepeatKTimes {
-    fn step(chip: &mut Chip, ram: &[u8], accesses: [Access; 3]) -> (u8, Report) {
+    fn step(chip: &mut Chip, ram: &[u8], accesses: [Access; 3]) -> (Answer, Report) {
         recounted(chip, ram, accesses, |_, k| k.saturating_sub(1))
     }
 }
@@ -34,7 +34,7 @@ impl Fault for RepeatKTimes {
 pub struct OuterCountKept;
 
 impl Fault for OuterCountKept {
-    fn step(chip: &mut Chip, ram: &[u8], accesses: [Access; 3]) -> (u8, Report) {
+    fn step(chip: &mut Chip, ram: &[u8], accesses: [Access; 3]) -> (Answer, Report) {
         recounted(
             chip,
             ram,
@@ -48,7 +48,7 @@ impl Fault for OuterCountKept {
 pub struct EightRegisters;
 
 impl Fault for EightRegisters {
-    fn step(chip: &mut Chip, ram: &[u8], accesses: [Access; 3]) -> (u8, Report) {
+    fn step(chip: &mut Chip, ram: &[u8], accesses: [Access; 3]) -> (Answer, Report) {
         let upper = chip.sound.psg;
         let stepped = chip.step(ram, accesses);
         chip.sound.psg[8..].copy_from_slice(&upper[8..]);
@@ -60,7 +60,7 @@ impl Fault for EightRegisters {
 pub struct HighestChannelFirst;
 
 impl Fault for HighestChannelFirst {
-    fn step(chip: &mut Chip, ram: &[u8], accesses: [Access; 3]) -> (u8, Report) {
+    fn step(chip: &mut Chip, ram: &[u8], accesses: [Access; 3]) -> (Answer, Report) {
         let (answer, report) = chip.step(ram, accesses);
         for n in (0..3).rev() {
             if report.kinds[n] == kind::LOAD {
@@ -76,7 +76,7 @@ impl Fault for HighestChannelFirst {
 pub struct PauseOf0Counts;
 
 impl Fault for PauseOf0Counts {
-    fn step(chip: &mut Chip, ram: &[u8], accesses: [Access; 3]) -> (u8, Report) {
+    fn step(chip: &mut Chip, ram: &[u8], accesses: [Access; 3]) -> (Answer, Report) {
         let (answer, report) = chip.step(ram, accesses);
         for n in 0..3 {
             if report.kinds[n] == kind::PAUSE {
@@ -91,7 +91,7 @@ impl Fault for PauseOf0Counts {
 pub struct ControlAsNothing;
 
 impl Fault for ControlAsNothing {
-    fn step(chip: &mut Chip, ram: &[u8], accesses: [Access; 3]) -> (u8, Report) {
+    fn step(chip: &mut Chip, ram: &[u8], accesses: [Access; 3]) -> (Answer, Report) {
         let (answer, mut report) = chip.step(ram, accesses);
         for reported in &mut report.kinds {
             if *reported == kind::CONTROL {

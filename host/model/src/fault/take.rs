@@ -1,8 +1,9 @@
 //! Faults of the writer and of the reader of takes.
 
 use crate::machine::Fault;
-use plus::answer;
-use plus::take::{open, pack, record_at, unpack, write, Opened, Record, Written, RECORD, TRAILER};
+use plus::take::{open, pack, record_at, unpack, write};
+use plus::take::{Opened, Record, RecordRead, Written, RECORD, TRAILER};
+use plus::Answer;
 
 /// The count and the offset that the trailer says.
 fn trailer(file: &[u8]) -> (usize, usize) {
@@ -33,7 +34,7 @@ fn write_by(
 ) -> Written {
     let mended = anew(records.iter().map(|&number| unpack(number)), mend);
     let written = write(comment, &mended, output);
-    if written.answer == answer::DONE {
+    if written.answer == Answer::Done {
         let places = output[comment.len()..].chunks_mut(RECORD);
         for (place, number) in places.zip(records) {
             place.copy_from_slice(&number.to_le_bytes());
@@ -45,11 +46,12 @@ fn write_by(
 /// Opens a take by the test of mended records.
 fn open_by(file: &[u8], mend: fn(Record, Record) -> Record) -> Opened {
     let opened = open(file);
-    if opened.answer != answer::BAD_RECORD {
+    if opened.answer != Answer::BadRecord {
         return opened;
     }
     let (count, offset) = trailer(file);
-    let mended = anew((1..=count).map(|number| record_at(file, number)), mend);
+    let records = (1..=count).map(|number| record_at(file, number).record);
+    let mended = anew(records, mend);
     let mut file = file.to_vec();
     for (place, number) in file[offset..].chunks_mut(RECORD).zip(mended) {
         place.copy_from_slice(&number.to_le_bytes());
@@ -124,7 +126,7 @@ impl Fault for SameLineBad {
             .position(|two| line(two[0]) == line(two[1]));
         match stays {
             Some(before) => Written {
-                answer: answer::BAD_RECORD,
+                answer: Answer::BadRecord,
                 size: 0,
                 bad: before + 2,
             },
@@ -139,7 +141,7 @@ pub struct CountAndOffsetSwapped;
 impl Fault for CountAndOffsetSwapped {
     fn take_write(comment: &[u8], records: &[u64], output: &mut [u8]) -> Written {
         let written = write(comment, records, output);
-        if written.answer == answer::DONE {
+        if written.answer == Answer::Done {
             output[written.size - TRAILER..][..8].rotate_left(4);
         }
         written
@@ -184,7 +186,7 @@ pub struct GapAllowed;
 impl Fault for GapAllowed {
     fn take_open(file: &[u8]) -> Opened {
         let opened = open(file);
-        if opened.answer != answer::NOT_MET {
+        if opened.answer != Answer::NotMet {
             return opened;
         }
         let (count, offset) = trailer(file);
@@ -202,7 +204,7 @@ pub struct EndBy32Bits;
 impl Fault for EndBy32Bits {
     fn take_open(file: &[u8]) -> Opened {
         let opened = open(file);
-        if opened.answer != answer::NOT_MET {
+        if opened.answer != Answer::NotMet {
             return opened;
         }
         let (count, offset) = trailer(file);
@@ -211,7 +213,7 @@ impl Fault for EndBy32Bits {
             return opened;
         }
         Opened {
-            answer: answer::DONE,
+            answer: Answer::Done,
             bad: 0,
             count,
             offset,
@@ -253,7 +255,7 @@ impl Fault for MetBeforeLetters {
         };
         let lettered = open(&[&file[..letters], b"PLTK"].concat());
         match lettered.answer {
-            answer::NOT_MET => lettered,
+            Answer::NotMet => lettered,
             _ => open(file),
         }
     }
@@ -265,7 +267,7 @@ pub struct RecordsBeforeMet;
 impl Fault for RecordsBeforeMet {
     fn take_open(file: &[u8]) -> Opened {
         let opened = open(file);
-        if opened.answer != answer::NOT_MET {
+        if opened.answer != Answer::NotMet {
             return opened;
         }
         let (count, offset) = trailer(file);
@@ -274,7 +276,7 @@ impl Fault for RecordsBeforeMet {
         let numbers: Vec<u64> = records.chunks_exact(RECORD).map(number).collect();
         let tested = write(&[], &numbers[..count.min(numbers.len())], &mut []);
         match tested.answer {
-            answer::BAD_RECORD => Opened {
+            Answer::BadRecord => Opened {
                 answer: tested.answer,
                 bad: tested.bad,
                 ..opened
@@ -307,7 +309,7 @@ pub struct CountThoughBad;
 impl Fault for CountThoughBad {
     fn take_open(file: &[u8]) -> Opened {
         let mut opened = open(file);
-        if opened.answer == answer::BAD_RECORD {
+        if opened.answer == Answer::BadRecord {
             opened.count = trailer(file).0;
         }
         opened
@@ -321,7 +323,7 @@ impl Fault for RoomBeforeRecords {
     fn take_write(comment: &[u8], records: &[u64], output: &mut [u8]) -> Written {
         if output.len() < comment.len() + RECORD * records.len() + TRAILER {
             return Written {
-                answer: answer::NO_ROOM,
+                answer: Answer::NoRoom,
                 size: 0,
                 bad: 0,
             };
@@ -348,7 +350,7 @@ pub struct CommentThoughRefused;
 impl Fault for CommentThoughRefused {
     fn take_write(comment: &[u8], records: &[u64], output: &mut [u8]) -> Written {
         let written = write(comment, records, output);
-        if written.answer != answer::DONE {
+        if written.answer != Answer::Done {
             for (place, &byte) in output.iter_mut().zip(comment) {
                 *place = byte;
             }
@@ -363,7 +365,7 @@ pub struct BeyondTakeCleared;
 impl Fault for BeyondTakeCleared {
     fn take_write(comment: &[u8], records: &[u64], output: &mut [u8]) -> Written {
         let written = write(comment, records, output);
-        if written.answer == answer::DONE {
+        if written.answer == Answer::Done {
             output[written.size..].fill(0);
         }
         written
@@ -384,8 +386,39 @@ impl Fault for OffsetCut {
 pub struct RecordFrom0;
 
 impl Fault for RecordFrom0 {
-    fn take_record(file: &[u8], number: usize) -> Record {
+    fn take_record(file: &[u8], number: usize) -> RecordRead {
         record_at(file, number.wrapping_add(1))
+    }
+}
+
+/// Where no record has the number, the one that is all 0 is served.
+pub struct NoSuchRecordServed;
+
+impl Fault for NoSuchRecordServed {
+    fn take_record(file: &[u8], number: usize) -> RecordRead {
+        let read = record_at(file, number);
+        RecordRead {
+            answer: match read.answer {
+                Answer::NothingThere => Answer::Done,
+                other => other,
+            },
+            ..read
+        }
+    }
+}
+
+/// A record of number 0 is refused before the trailer is looked at.
+pub struct NumberBeforeTrailer;
+
+impl Fault for NumberBeforeTrailer {
+    fn take_record(file: &[u8], number: usize) -> RecordRead {
+        match number {
+            0 => RecordRead {
+                answer: Answer::NothingThere,
+                record: Record::default(),
+            },
+            _ => record_at(file, number),
+        }
     }
 }
 
@@ -393,10 +426,13 @@ impl Fault for RecordFrom0 {
 pub struct NoRecordsThoughMet;
 
 impl Fault for NoRecordsThoughMet {
-    fn take_record(file: &[u8], number: usize) -> Record {
+    fn take_record(file: &[u8], number: usize) -> RecordRead {
         match open(file).answer {
-            answer::DONE => record_at(file, number),
-            _ => Record::default(),
+            Answer::BadRecord => RecordRead {
+                answer: Answer::BadRecord,
+                record: Record::default(),
+            },
+            _ => record_at(file, number),
         }
     }
 }

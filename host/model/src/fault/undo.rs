@@ -1,13 +1,13 @@
 //! Faults of the record and of undo.
 
 use crate::machine::Fault;
-use plus::{answer, Chip, State, STORE};
+use plus::{Answer, Chip, State, STORE};
 
 /// Puts an entry more into the record: a palette byte written as it is.
 fn keep_another(chip: &mut Chip) {
     let (mapped, byte) = (chip.gate.mapped, chip.palette[0]);
     chip.gate.mapped = true;
-    chip.page_write(&mut [0; STORE], 0x6400, byte);
+    let _ = chip.page_write(&mut [0; STORE], 0x6400, byte);
     chip.gate.mapped = mapped;
 }
 
@@ -16,10 +16,10 @@ fn undone_and(
     chip: &mut Chip,
     store: &mut [u8],
     more: impl FnOnce(&mut State, &mut [u8], usize),
-) -> u8 {
+) -> Answer {
     let newest = chip.record().next();
     let answer = chip.undo(store);
-    if let (answer::DONE, Some((address, _))) = (answer, newest) {
+    if let (Answer::Done, Some((address, _))) = (answer, newest) {
         more(chip, store, address.into());
     }
     answer
@@ -29,9 +29,9 @@ fn undone_and(
 pub struct DcsrKept;
 
 impl Fault for DcsrKept {
-    fn page_write(chip: &mut Chip, store: &mut [u8], address: u16, byte: u8) -> u8 {
+    fn page_write(chip: &mut Chip, store: &mut [u8], address: u16, byte: u8) -> Answer {
         let answer = chip.page_write(store, address, byte);
-        if answer == answer::DONE && address == 0x6C0F {
+        if answer == Answer::Done && address == 0x6C0F {
             keep_another(chip);
         }
         answer
@@ -42,9 +42,9 @@ impl Fault for DcsrKept {
 pub struct RefusedKept;
 
 impl Fault for RefusedKept {
-    fn page_write(chip: &mut Chip, store: &mut [u8], address: u16, byte: u8) -> u8 {
+    fn page_write(chip: &mut Chip, store: &mut [u8], address: u16, byte: u8) -> Answer {
         let answer = chip.page_write(store, address, byte);
-        if answer != answer::DONE {
+        if answer != Answer::Done {
             keep_another(chip);
         }
         answer
@@ -55,7 +55,7 @@ impl Fault for RefusedKept {
 pub struct SameNotKept;
 
 impl Fault for SameNotKept {
-    fn page_write(chip: &mut Chip, store: &mut [u8], address: u16, byte: u8) -> u8 {
+    fn page_write(chip: &mut Chip, store: &mut [u8], address: u16, byte: u8) -> Answer {
         let (before, pixels) = (**chip, store.to_vec());
         let answer = chip.page_write(store, address, byte);
         let editing = chip.editing;
@@ -71,7 +71,7 @@ impl Fault for SameNotKept {
 pub struct RecordOf255;
 
 impl Fault for RecordOf255 {
-    fn page_write(chip: &mut Chip, store: &mut [u8], address: u16, byte: u8) -> u8 {
+    fn page_write(chip: &mut Chip, store: &mut [u8], address: u16, byte: u8) -> Answer {
         let answer = chip.page_write(store, address, byte);
         chip.editing.undo.count = chip.editing.undo.count.min(255);
         answer
@@ -93,7 +93,7 @@ impl Fault for RecordThroughReset {
 pub struct WrittenByteBack;
 
 impl Fault for WrittenByteBack {
-    fn undo(chip: &mut Chip, store: &mut [u8]) -> u8 {
+    fn undo(chip: &mut Chip, store: &mut [u8]) -> Answer {
         let (before, pixels) = (**chip, store.to_vec());
         let answer = chip.undo(store);
         let editing = chip.editing;
@@ -107,7 +107,7 @@ impl Fault for WrittenByteBack {
 pub struct PixelBackBy4Bits;
 
 impl Fault for PixelBackBy4Bits {
-    fn undo(chip: &mut Chip, store: &mut [u8]) -> u8 {
+    fn undo(chip: &mut Chip, store: &mut [u8]) -> Answer {
         undone_and(chip, store, |_, store, address| {
             if let 0x4000..=0x4FFF = address {
                 store[address - 0x4000] &= 0x0F;
@@ -120,7 +120,7 @@ impl Fault for PixelBackBy4Bits {
 pub struct OtherByteToo;
 
 impl Fault for OtherByteToo {
-    fn undo(chip: &mut Chip, store: &mut [u8]) -> u8 {
+    fn undo(chip: &mut Chip, store: &mut [u8]) -> Answer {
         undone_and(chip, store, |state, _, address| {
             if let 0x6C00..=0x6C0B = address {
                 let channel = &mut state.sound.channels[(address - 0x6C00) / 4];
@@ -134,7 +134,7 @@ impl Fault for OtherByteToo {
 pub struct CapturedSplitBack;
 
 impl Fault for CapturedSplitBack {
-    fn undo(chip: &mut Chip, store: &mut [u8]) -> u8 {
+    fn undo(chip: &mut Chip, store: &mut [u8]) -> Answer {
         undone_and(chip, store, |state, _, address| {
             let (video, counters) = (state.video, &mut state.crtc.counters);
             if counters.held && (0x6802..=0x6803).contains(&address) {
@@ -148,9 +148,9 @@ impl Fault for CapturedSplitBack {
 pub struct EmptyServed;
 
 impl Fault for EmptyServed {
-    fn undo(chip: &mut Chip, store: &mut [u8]) -> u8 {
+    fn undo(chip: &mut Chip, store: &mut [u8]) -> Answer {
         match chip.undo(store) {
-            answer::NOTHING_TO_UNDO => answer::DONE,
+            Answer::NothingToUndo => Answer::Done,
             answer => answer,
         }
     }
@@ -160,9 +160,9 @@ impl Fault for EmptyServed {
 pub struct EmptyFirst;
 
 impl Fault for EmptyFirst {
-    fn undo(chip: &mut Chip, store: &mut [u8]) -> u8 {
+    fn undo(chip: &mut Chip, store: &mut [u8]) -> Answer {
         match chip.undo(store) {
-            answer::WRONG_LENGTH if chip.editing.undo.count == 0 => answer::NOTHING_TO_UNDO,
+            Answer::WrongLength if chip.editing.undo.count == 0 => Answer::NothingToUndo,
             answer => answer,
         }
     }
@@ -172,10 +172,10 @@ impl Fault for EmptyFirst {
 pub struct UndoWhereMapped;
 
 impl Fault for UndoWhereMapped {
-    fn undo(chip: &mut Chip, store: &mut [u8]) -> u8 {
+    fn undo(chip: &mut Chip, store: &mut [u8]) -> Answer {
         match chip.gate.mapped {
             true => chip.undo(store),
-            false => answer::NOT_MAPPED,
+            false => Answer::NotMapped,
         }
     }
 }
@@ -184,10 +184,10 @@ impl Fault for UndoWhereMapped {
 pub struct UndoWhereUnlocked;
 
 impl Fault for UndoWhereUnlocked {
-    fn undo(chip: &mut Chip, store: &mut [u8]) -> u8 {
+    fn undo(chip: &mut Chip, store: &mut [u8]) -> Answer {
         match chip.lock.unlocked {
             true => chip.undo(store),
-            false => answer::NOT_MAPPED,
+            false => Answer::NotMapped,
         }
     }
 }

@@ -5,14 +5,14 @@ use crate::played::{off, taken, Played};
 use model::random::{any_accesses, any_list, any_state, Random};
 use model::under_test::{put_words, ram_with, UnderTest};
 use model::{held, Machine};
-use plus::{Access, Length, RAM};
+use plus::{Access, Answer, Length, RAM};
 use std::ops::RangeInclusive;
 
 /// A served forecast of a list that begins at an even place, with its least and
 /// its most cycles.
 fn served(lines: u64, cycles: RangeInclusive<u64>, start: usize, words: usize) -> Length {
     Length {
-        answer: 0,
+        answer: Answer::Done,
         lines,
         cycles: *cycles.start(),
         most: *cycles.end(),
@@ -21,9 +21,9 @@ fn served(lines: u64, cycles: RangeInclusive<u64>, start: usize, words: usize) -
     }
 }
 
-fn refused(answer: u8) -> Length {
+fn refused(number: u8) -> Length {
     Length {
-        answer,
+        answer: Answer::try_from(number).unwrap(),
         lines: 0,
         cycles: 0,
         most: 0,

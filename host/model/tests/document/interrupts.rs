@@ -2,6 +2,7 @@
 
 use model::under_test::{ram_with, UnderTest};
 use model::{held, Machine};
+use plus::Answer;
 
 held!(every_case_of_an_acknowledge, fails_with LowestFirst, AlwaysCleared);
 fn every_case_of_an_acknowledge<M: Machine>() {
@@ -19,18 +20,18 @@ fn every_case_of_an_acknowledge<M: Machine>() {
             let mut expected = chip.state();
             let top = ivr & 0xF8;
             let answer = match case & 15 {
-                0 => (5, 0),
+                0 => (Answer::NoInterrupt, 0),
                 8.. => {
                     expected.interrupts.raster = false;
                     expected.interrupts.last_raster = true;
-                    (0, top + 6)
+                    (Answer::Done, top + 6)
                 }
                 channels => {
                     // The highest bit set.
                     let n = 7 - channels.leading_zeros() as usize;
                     expected.interrupts.last_raster = false;
                     expected.sound.channels[n].interrupt = ivr & 1 != 0;
-                    (0, top + [4, 2, 0][n])
+                    (Answer::Done, top + [4, 2, 0][n])
                 }
             };
             assert_eq!(chip.acknowledge(), answer);
@@ -55,19 +56,19 @@ fn waiting<M: Machine>(ivr: u8, channels: u8) -> M {
 // Numbers of the document for IVR A8h: AEh, ACh, AAh, A8h.
 held!(vectors);
 fn vectors<M: Machine>() {
-    assert_eq!(M::new().acknowledge(), (5, 0));
-    assert_eq!(waiting::<M>(0xA8, 0).acknowledge(), (0, 0xAE));
+    assert_eq!(M::new().acknowledge(), (Answer::NoInterrupt, 0));
+    assert_eq!(waiting::<M>(0xA8, 0).acknowledge(), (Answer::Done, 0xAE));
     for (channels, vector) in [(1, 0xAC), (2, 0xAA), (4, 0xA8)] {
         let mut chip = waiting::<M>(0xA8, channels);
-        assert_eq!(chip.acknowledge(), (0, 0xAE));
-        assert_eq!(chip.acknowledge(), (0, vector));
+        assert_eq!(chip.acknowledge(), (Answer::Done, 0xAE));
+        assert_eq!(chip.acknowledge(), (Answer::Done, vector));
     }
     // The low three bits of IVR have no part in it.
-    assert_eq!(waiting::<M>(0x01, 0).acknowledge(), (0, 0x06));
-    assert_eq!(waiting::<M>(0xAF, 0).acknowledge(), (0, 0xAE));
+    assert_eq!(waiting::<M>(0x01, 0).acknowledge(), (Answer::Done, 0x06));
+    assert_eq!(waiting::<M>(0xAF, 0).acknowledge(), (Answer::Done, 0xAE));
     let mut chip = waiting::<M>(0xFF, 1);
-    assert_eq!(chip.acknowledge(), (0, 0xFE));
-    assert_eq!(chip.acknowledge(), (0, 0xFC));
+    assert_eq!(chip.acknowledge(), (Answer::Done, 0xFE));
+    assert_eq!(chip.acknowledge(), (Answer::Done, 0xFC));
 }
 
 // Each vector with what DCSR reads after it: bit 7 for the raster, bits 6, 5, 4
@@ -77,10 +78,10 @@ fn all_four_in_turn<M: Machine>() {
     let mut chip = waiting::<M>(0xA8, 7);
     assert_eq!(chip.peek(0x6C0F, 0), 0x70);
     for (vector, dcsr) in [(0xAE, 0xF0), (0xA8, 0x60), (0xAA, 0x40), (0xAC, 0x00)] {
-        assert_eq!(chip.acknowledge(), (0, vector));
+        assert_eq!(chip.acknowledge(), (Answer::Done, vector));
         assert_eq!(chip.peek(0x6C0F, 0), dcsr);
     }
-    assert_eq!(chip.acknowledge(), (5, 0));
+    assert_eq!(chip.acknowledge(), (Answer::NoInterrupt, 0));
     assert_eq!(chip.peek(0x6C0F, 0), 0x00);
 }
 
@@ -88,19 +89,19 @@ held!(ivr_bit_0_leaves_a_channels_interrupt, fails_with AlwaysCleared);
 fn ivr_bit_0_leaves_a_channels_interrupt<M: Machine>() {
     let mut chip = waiting::<M>(0xA9, 7);
     for (vector, dcsr) in [(0xAE, 0xF0), (0xA8, 0x70), (0xA8, 0x70)] {
-        assert_eq!(chip.acknowledge(), (0, vector));
+        assert_eq!(chip.acknowledge(), (Answer::Done, vector));
         assert_eq!(chip.peek(0x6C0F, 0), dcsr);
     }
     // DCSR clears it, and then channel 1 is next.
     chip.poke(0x6C0F, 0x10);
-    assert_eq!(chip.acknowledge(), (0, 0xAA));
+    assert_eq!(chip.acknowledge(), (Answer::Done, 0xAA));
 }
 
 held!(a_refused_acknowledge_is_not_the_last);
 fn a_refused_acknowledge_is_not_the_last<M: Machine>() {
     let mut chip = waiting::<M>(0xA8, 0);
-    assert_eq!(chip.acknowledge(), (0, 0xAE));
-    assert_eq!(chip.acknowledge(), (5, 0));
+    assert_eq!(chip.acknowledge(), (Answer::Done, 0xAE));
+    assert_eq!(chip.acknowledge(), (Answer::NoInterrupt, 0));
     assert_eq!(chip.peek(0x6C0F, 0), 0x80);
 }
 

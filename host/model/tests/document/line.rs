@@ -3,7 +3,7 @@
 use model::random::{any_accesses, any_state, Random};
 use model::under_test::UnderTest;
 use model::{held, Machine};
-use plus::{Counters, Report, RAM, STORE};
+use plus::{Answer, Counters, Report, RAM, STORE};
 
 /// VC, RC and adjust.
 fn position<M: Machine>(chip: &M) -> (u8, u8, bool) {
@@ -31,7 +31,10 @@ fn a_step_refuses_other_lengths<M: Machine>() {
             lows: [0; 3],
         };
         let accesses = any_accesses(&mut random);
-        assert_eq!(chip.step(&vec![0; length], accesses), (1, refused));
+        assert_eq!(
+            chip.step(&vec![0; length], accesses),
+            (Answer::WrongLength, refused)
+        );
         assert_eq!(chip.state(), before);
         assert_eq!(chip.plain_step(&[0; RAM]).0, 0);
         assert_ne!(chip.state(), before);

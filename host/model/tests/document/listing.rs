@@ -3,6 +3,7 @@
 use model::random::{changed, mixed_word, Random};
 use model::{held, Machine};
 use plus::listing::{Printed, ReadBack, LONGEST_LINE};
+use plus::Answer;
 use std::collections::{HashMap, HashSet};
 
 /// The line of a word, by the request's sentences.
@@ -41,13 +42,13 @@ fn read<M: Machine>(text: &[u8]) -> Result<Vec<u16>, usize> {
     let back = M::read(text, &mut words);
     assert!(words[back.count..].iter().all(|&word| word == 0xEEEE));
     match back.answer {
-        0 => {
+        Answer::Done => {
             assert_eq!(back.line, 0);
             words.truncate(back.count);
             Ok(words)
         }
         _ => {
-            assert_eq!((back.answer, back.count), (7, 0));
+            assert_eq!((back.answer, back.count), (Answer::NotListing, 0));
             Err(back.line)
         }
     }
@@ -62,11 +63,14 @@ fn is_the_text_of<M: Machine>(text: &str, words: &[u16]) {
     assert_eq!(read::<M>(text.as_bytes()), Ok(words.to_vec()), "{text:?}");
 }
 
-const TOO_SMALL: Printed = Printed { answer: 8, size: 0 };
+const TOO_SMALL: Printed = Printed {
+    answer: Answer::TooSmall,
+    size: 0,
+};
 
-fn refused(answer: u8, line: usize) -> ReadBack {
+fn refused(number: u8, line: usize) -> ReadBack {
     ReadBack {
-        answer,
+        answer: Answer::try_from(number).unwrap(),
         count: 0,
         line,
     }
@@ -332,7 +336,7 @@ fn words_that_have_no_room_are_refused<M: Machine>() {
     }
     let mut words = [0xEEEE; 3];
     let served = ReadBack {
-        answer: 0,
+        answer: Answer::Done,
         count: 3,
         line: 0,
     };
@@ -359,7 +363,7 @@ fn text_that_has_no_room_is_refused<M: Machine>() {
     }
     let mut text = vec![0xEE; whole.len()];
     let served = Printed {
-        answer: 0,
+        answer: Answer::Done,
         size: whole.len(),
     };
     assert_eq!(M::print(&words, &mut text), served);
@@ -369,12 +373,15 @@ fn text_that_has_no_room_is_refused<M: Machine>() {
 held!(what_lies_beyond_stays, fails_with BeyondCleared);
 fn what_lies_beyond_stays<M: Machine>() {
     let mut text = *b"0123456789";
-    let served = Printed { answer: 0, size: 5 };
+    let served = Printed {
+        answer: Answer::Done,
+        size: 5,
+    };
     assert_eq!(M::print(&[0x4020], &mut text), served);
     assert_eq!(text, *b"STOP\n56789");
     let mut words = [0x1111, 0x2222, 0x3333];
     let served = ReadBack {
-        answer: 0,
+        answer: Answer::Done,
         count: 1,
         line: 0,
     };
@@ -385,9 +392,15 @@ fn what_lies_beyond_stays<M: Machine>() {
 held!(an_empty_list_needs_no_room);
 fn an_empty_list_needs_no_room<M: Machine>() {
     let printed = M::print(&[], &mut []);
-    assert_eq!(printed, Printed { answer: 0, size: 0 });
+    assert_eq!(
+        printed,
+        Printed {
+            answer: Answer::Done,
+            size: 0
+        }
+    );
     let served = ReadBack {
-        answer: 0,
+        answer: Answer::Done,
         count: 0,
         line: 0,
     };

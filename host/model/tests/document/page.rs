@@ -4,7 +4,7 @@
 use model::random::{any_state, Random};
 use model::under_test::UnderTest;
 use model::{held, Machine};
-use plus::{RAM, STORE};
+use plus::{Answer, RAM, STORE};
 
 /// What a write answers where the page is mapped.
 fn written(address: u16) -> u8 {
@@ -69,9 +69,13 @@ fn every_address_can_be_read_or_gives_the_bus_byte<M: Machine>() {
     for address in 0x4000..=0x7FFF {
         let read = [0x00, 0x5A, 0xFF].map(|bus| chip.page_read(&store, address, bus));
         if readable(address) {
-            assert_eq!(read, [(0, read[0].1); 3], "{address:04X}");
+            assert_eq!(read, [(Answer::Done, read[0].1); 3], "{address:04X}");
         } else {
-            assert_eq!(read, [(0, 0x00), (0, 0x5A), (0, 0xFF)], "{address:04X}");
+            assert_eq!(
+                read,
+                [0x00, 0x5A, 0xFF].map(|bus| (Answer::Done, bus)),
+                "{address:04X}"
+            );
         }
     }
     assert_eq!(chip.state(), before);
@@ -82,12 +86,15 @@ fn outside_the_page_is_refused<M: Machine>() {
     let mut chip = M::open();
     let mut store = [0x77; STORE];
     for address in [0x0000, 0x3FFF, 0x8000, 0xC000, 0xFFFF] {
-        assert_eq!(chip.page_read(&store, address, 0x5A), (2, 0));
+        assert_eq!(
+            chip.page_read(&store, address, 0x5A),
+            (Answer::NotMapped, 0)
+        );
         assert_eq!(chip.page_write(&mut store, address, 1), 2);
     }
     assert_eq!(store, [0x77; STORE]);
-    assert_eq!(chip.page_read(&store, 0x4000, 0x5A), (0, 0x07));
-    assert_eq!(chip.page_read(&store, 0x7FFF, 0x5A), (0, 0x5A));
+    assert_eq!(chip.page_read(&store, 0x4000, 0x5A), (Answer::Done, 0x07));
+    assert_eq!(chip.page_read(&store, 0x7FFF, 0x5A), (Answer::Done, 0x5A));
     assert_eq!(chip.page_write(&mut store, 0x7FFF, 1), 3);
 }
 
@@ -102,7 +109,10 @@ fn a_page_that_is_not_mapped_is_refused<M: Machine>() {
         for address in [
             0x3FFF, 0x4000, 0x5000, 0x6000, 0x6808, 0x6C0F, 0x7FFF, 0x8000,
         ] {
-            assert_eq!(chip.page_read(&store, address, 0x5A), (2, 0));
+            assert_eq!(
+                chip.page_read(&store, address, 0x5A),
+                (Answer::NotMapped, 0)
+            );
             assert_eq!(chip.page_write(&mut store, address, 1), 2);
         }
         assert_eq!(chip.state(), before);
@@ -120,7 +130,10 @@ fn a_length_is_refused_first<M: Machine>() {
         for length in [0, 1, STORE - 1, STORE + 1, RAM] {
             let mut store = vec![0x33; length];
             for address in [0x3FFF, 0x4000, 0x5000, 0x6800, 0x7FFF, 0x8000] {
-                assert_eq!(chip.page_read(&store, address, 0x5A), (1, 0));
+                assert_eq!(
+                    chip.page_read(&store, address, 0x5A),
+                    (Answer::WrongLength, 0)
+                );
                 assert_eq!(chip.page_write(&mut store, address, 0xFF), 1);
             }
             assert_eq!(store, vec![0x33; length]);
@@ -145,7 +158,7 @@ fn pixels_are_stored_and_read_by_4_bits<M: Machine>() {
         assert_eq!(store[place], pixel);
         store[place] |= 0xC0;
         let read = chip.page_read(&store, 0x4000 + place as u16, 0xFF);
-        assert_eq!(read, (0, pixel));
+        assert_eq!(read, (Answer::Done, pixel));
     }
     assert_eq!(chip.state(), before);
 }

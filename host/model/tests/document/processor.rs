@@ -4,7 +4,7 @@ use crate::played::taken;
 use model::random::{any_accesses, any_state, any_word, Random};
 use model::under_test::{put_words, ram_with, UnderTest};
 use model::{held, Machine};
-use plus::{kind, Access, Report, RAM};
+use plus::{kind, Access, Answer, Report, RAM};
 
 /// What it can do while a channel has its turn.
 const ACCESSES: [Access; 3] = [Access::Off, Access::On, Access::PsgWrite];
@@ -36,7 +36,7 @@ fn a_load_takes_8_9_or_10<M: Machine>() {
             for accesses in cases() {
                 chip.put(before);
                 let (answer, report) = chip.step(&ram, accesses);
-                assert_eq!((answer, report.kinds[n]), (0, kind::LOAD));
+                assert_eq!((answer, report.kinds[n]), (Answer::Done, kind::LOAD));
                 let expected = 1 + 1 + 8 + taken(accesses[n]);
                 assert_eq!(report.cycles, expected, "{accesses:?}");
             }
@@ -59,7 +59,11 @@ fn no_other_word_is_disturbed<M: Machine>() {
             accesses[n] = access;
             chip.put(alone[n]);
             let (answer, report) = chip.step(&ram, accesses);
-            assert_eq!((answer, report.cycles), (0, 3), "{word:04X} {accesses:?}");
+            assert_eq!(
+                (answer, report.cycles),
+                (Answer::Done, 3),
+                "{word:04X} {accesses:?}"
+            );
         }
     }
 }
@@ -81,7 +85,11 @@ fn a_channel_that_sits_out_pays_nothing<M: Machine>() {
             }
         });
         for accesses in cases() {
-            assert_eq!(chip.step(&loads, accesses), (0, sat_out), "{accesses:?}");
+            assert_eq!(
+                chip.step(&loads, accesses),
+                (Answer::Done, sat_out),
+                "{accesses:?}"
+            );
         }
     }
 }
@@ -159,7 +167,11 @@ fn all_else_is_the_same_in_every_case<M: Machine>() {
                 ..plain
             };
             chip.put(state);
-            assert_eq!(chip.step(&ram, accesses), (0, expected), "{accesses:?}");
+            assert_eq!(
+                chip.step(&ram, accesses),
+                (Answer::Done, expected),
+                "{accesses:?}"
+            );
             assert_eq!(chip.state(), after, "{accesses:?}");
         }
     }

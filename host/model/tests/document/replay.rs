@@ -7,7 +7,7 @@ use model::random::Random;
 use model::under_test::ram_with;
 use model::{held, Machine};
 use plus::take::{file_of, kind, Record, COUNTS, RECORD, TRAILER};
-use plus::{RAM, STORE, UNLOCK};
+use plus::{Answer, RAM, STORE, UNLOCK};
 
 /// A take being written, line by line.
 #[derive(Clone, Default)]
@@ -81,7 +81,7 @@ impl Writing {
 
     fn played_on<M: Machine>(&self, ram: &[u8], store: &mut [u8]) -> Replay<M> {
         let replay = M::replay(ram, store, &self.file());
-        assert_eq!((replay.answer, replay.bad), (0, 0));
+        assert_eq!((replay.answer, replay.bad), (Answer::Done, 0));
         replay
     }
 }
@@ -238,7 +238,7 @@ fn no_more_than_256_writes_are_left<M: Machine>() {
 fn is_refused<M: Machine>(ram: &[u8], store: usize, file: &[u8], answer: u8, bad: usize) {
     let mut pixels = vec![0xA5; store];
     let replay = M::replay(ram, &mut pixels, file);
-    assert_eq!((replay.answer, replay.bad), (answer, bad));
+    assert_eq!((replay.answer.number(), replay.bad), (answer, bad));
     assert_eq!((replay.lines, replay.counts), (0, counted(&[])));
     assert_eq!(replay.chip.state(), M::new().state());
     assert_eq!(replay.chip.record(), []);

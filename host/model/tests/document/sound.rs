@@ -3,7 +3,7 @@
 use model::random::{any_state, Random};
 use model::under_test::{put_words, ram_with, UnderTest};
 use model::{held, Machine};
-use plus::{kind, Channel, Report, Sound, RAM};
+use plus::{kind, Answer, Channel, Report, Sound, RAM};
 
 /// What a line reports where one channel alone executed a word.
 fn alone(channel: usize, kind: u8, low: u16) -> Report {
@@ -81,7 +81,7 @@ fn every_word<M: Machine>() {
         assert_eq!(chip.state().sound, state.sound, "{word:04X}");
         assert_eq!(
             (answer, report),
-            (0, alone(n, kind, word & 0x0FFF)),
+            (Answer::Done, alone(n, kind, word & 0x0FFF)),
             "{word:04X}"
         );
     }
@@ -97,7 +97,10 @@ fn a_load_to_each_of_16_registers<M: Machine>() {
         chip.play(n, 0x8000, 0);
         let mut psg = [0; 16];
         for (register, &word) in loads.iter().enumerate() {
-            assert_eq!(chip.plain_step(&ram), (0, alone(n, kind::LOAD, word)));
+            assert_eq!(
+                chip.plain_step(&ram),
+                (Answer::Done, alone(n, kind::LOAD, word))
+            );
             psg[register] = 0xA0 | (15 - register as u8);
             assert_eq!(chip.state().sound.psg, psg);
         }
@@ -148,7 +151,7 @@ fn cycles_of_a_line<M: Machine>() {
         let (answer, report) = chip.plain_step(&ram);
         assert_eq!(
             (answer, report.cycles),
-            (0, cycles),
+            (Answer::Done, cycles),
             "{words:04X?} {enables}"
         );
     }
@@ -161,11 +164,17 @@ fn a_pause_at_every_prescale<M: Machine>() {
     for prescale in 0..=255 {
         let mut chip = M::open();
         chip.play(1, 0x8000, prescale);
-        assert_eq!(chip.plain_step(&ram), (0, alone(1, kind::PAUSE, 2)));
+        assert_eq!(
+            chip.plain_step(&ram),
+            (Answer::Done, alone(1, kind::PAUSE, 2))
+        );
         for _ in 1..2 * (u32::from(prescale) + 1) {
-            assert_eq!(chip.plain_step(&ram), (0, SAT_OUT));
+            assert_eq!(chip.plain_step(&ram), (Answer::Done, SAT_OUT));
         }
-        assert_eq!(chip.plain_step(&ram), (0, alone(1, kind::CONTROL, 0x20)));
+        assert_eq!(
+            chip.plain_step(&ram),
+            (Answer::Done, alone(1, kind::CONTROL, 0x20))
+        );
     }
 }
 
@@ -180,7 +189,10 @@ fn a_prescale_changed_in_the_pause<M: Machine>() {
     chip.poke(0x6C02, 1);
     chip.lines(9, &ram);
     assert!(channel(&chip, 0).enabled);
-    assert_eq!(chip.plain_step(&ram), (0, alone(0, kind::CONTROL, 0x20)));
+    assert_eq!(
+        chip.plain_step(&ram),
+        (Answer::Done, alone(0, kind::CONTROL, 0x20))
+    );
     assert!(!channel(&chip, 0).enabled);
 }
 
@@ -200,14 +212,17 @@ fn a_pause_stands_still_while_off<M: Machine>() {
     };
     for _ in 0..20 {
         assert_eq!(channel(&chip, 0), off);
-        assert_eq!(chip.plain_step(&ram), (0, SAT_OUT));
+        assert_eq!(chip.plain_step(&ram), (Answer::Done, SAT_OUT));
     }
     chip.poke(0x6C0F, 1);
     assert_eq!(channel(&chip, 0), paused);
     // One line to 1, two lines to 0.
-    assert_eq!(chip.plain_step(&ram), (0, SAT_OUT));
-    assert_eq!(chip.plain_step(&ram), (0, SAT_OUT));
-    assert_eq!(chip.plain_step(&ram), (0, alone(0, kind::CONTROL, 0x20)));
+    assert_eq!(chip.plain_step(&ram), (Answer::Done, SAT_OUT));
+    assert_eq!(chip.plain_step(&ram), (Answer::Done, SAT_OUT));
+    assert_eq!(
+        chip.plain_step(&ram),
+        (Answer::Done, alone(0, kind::CONTROL, 0x20))
+    );
 }
 
 // PAUSE 3 at prescale 2 is 9 lines. On its third the channel is sent to 9000h,
@@ -228,9 +243,12 @@ fn a_start_address_written_in_a_pause<M: Machine>() {
             assert_eq!(channel(&chip, n), Channel { address, ..paused });
         }
         for _ in 3..9 {
-            assert_eq!(chip.plain_step(&ram), (0, SAT_OUT));
+            assert_eq!(chip.plain_step(&ram), (Answer::Done, SAT_OUT));
         }
-        assert_eq!(chip.plain_step(&ram), (0, alone(n, kind::PAUSE, 0)));
+        assert_eq!(
+            chip.plain_step(&ram),
+            (Answer::Done, alone(n, kind::PAUSE, 0))
+        );
         let passed = Channel {
             address: 0x9002,
             pause: 0,
@@ -238,7 +256,10 @@ fn a_start_address_written_in_a_pause<M: Machine>() {
             ..paused
         };
         assert_eq!(channel(&chip, n), passed);
-        assert_eq!(chip.plain_step(&ram), (0, alone(n, kind::LOAD, 0x123)));
+        assert_eq!(
+            chip.plain_step(&ram),
+            (Answer::Done, alone(n, kind::LOAD, 0x123))
+        );
     }
 }
 
@@ -292,13 +313,19 @@ fn the_address_wraps<M: Machine>() {
     let mut ram = ram_with(0xFFFE, &[0x4020]);
     let mut chip = M::open();
     chip.play(0, 0xFFFE, 0);
-    assert_eq!(chip.plain_step(&ram), (0, alone(0, kind::CONTROL, 0x20)));
+    assert_eq!(
+        chip.plain_step(&ram),
+        (Answer::Done, alone(0, kind::CONTROL, 0x20))
+    );
     assert_eq!(channel(&chip, 0), Channel::default());
     ram[0x0000] = 0x23;
     chip.change(|state| {
         state.sound.channels[0].enabled = true;
         state.sound.channels[0].address = 0xFFFF;
     });
-    assert_eq!(chip.plain_step(&ram), (0, alone(0, kind::REPEAT, 0x340)));
+    assert_eq!(
+        chip.plain_step(&ram),
+        (Answer::Done, alone(0, kind::REPEAT, 0x340))
+    );
     assert_eq!(channel(&chip, 0).address, 0x0001);
 }

@@ -2,7 +2,8 @@
 
 use model::random::{any_comment, any_records, Random};
 use model::{held, Machine};
-use plus::take::{Opened, Record, Written, RECORD, TRAILER};
+use plus::take::{Opened, Record, RecordRead, Written, RECORD, TRAILER};
+use plus::Answer;
 
 /// Kinds with a good address and value each.
 const GOOD: [(u8, u16, u8); 6] = [
@@ -67,7 +68,7 @@ fn written<M: Machine>(comment: &[u8], records: &[Record]) -> Result<Vec<u8>, us
         output.truncate(written.size);
         return Ok(output);
     }
-    assert_eq!((written.answer, written.size), (13, 0));
+    assert_eq!((written.answer, written.size), (Answer::BadRecord, 0));
     Err(written.bad)
 }
 
@@ -82,12 +83,16 @@ fn opened<M: Machine>(file: &[u8]) -> Result<(&[u8], Vec<Record>), (u8, usize)> 
     } = M::take_open(file);
     if answer != 0 {
         assert_eq!((count, offset), (0, 0));
-        return Err((answer, bad));
+        return Err((answer.number(), bad));
     }
     assert_eq!(bad, 0);
     // No more than there are bytes for: a fault must not fill the memory.
     assert!(count <= file.len() / RECORD, "{count} records");
-    let records = (1..=count).map(|number| M::take_record(file, number));
+    let records = (1..=count).map(|number| {
+        let read = M::take_record(file, number);
+        assert_eq!(read.answer, 0, "{number}");
+        read.record
+    });
     Ok((&file[..offset], records.collect()))
 }
 
@@ -110,7 +115,7 @@ fn are_good<M: Machine>(records: &[Record]) {
 }
 
 const NO_ROOM: Written = Written {
-    answer: 14,
+    answer: Answer::NoRoom,
     size: 0,
     bad: 0,
 };
@@ -342,7 +347,7 @@ fn thirteen_before_fourteen<M: Machine>() {
         let mut output = vec![0xEE; room];
         let written = M::take_write(b"comment", &numbers::<M>(&bad), &mut output);
         let refused = Written {
-            answer: 13,
+            answer: Answer::BadRecord,
             size: 0,
             bad: 3,
         };
@@ -351,7 +356,7 @@ fn thirteen_before_fourteen<M: Machine>() {
 
         let written = M::take_write(b"comment", &numbers::<M>(&good), &mut output);
         let served = Written {
-            answer: 0,
+            answer: Answer::Done,
             size,
             bad: 0,
         };
@@ -375,7 +380,7 @@ fn bytes_beyond_the_file_stay<M: Machine>() {
     let mut output = *b"0123456789abcdefgh";
     let written = M::take_write(b"cd", &[], &mut output);
     let served = Written {
-        answer: 0,
+        answer: Answer::Done,
         size: 14,
         bad: 0,
     };
@@ -390,7 +395,7 @@ fn an_offset_above_4_bytes_has_no_room<M: Machine>() {
     let mut output = vec![0; (1 << 32) + 100];
     assert_eq!(M::take_write(&comment, &[], &mut output), NO_ROOM);
     let bad = Written {
-        answer: 13,
+        answer: Answer::BadRecord,
         size: 0,
         bad: 1,
     };
@@ -413,30 +418,49 @@ fn a_comment_may_look_like_a_take<M: Machine>() {
     }
 }
 
-held!(records_count_from_1, fails_with RecordFrom0);
-fn records_count_from_1<M: Machine>() {
-    let records = lined(&[3, 4, 5]);
-    let file = file_of(b"comment", &records);
-    for (number, record) in (1..).zip(&records) {
-        assert_eq!(M::take_record(&file, number), *record);
+/// The records of a take have the numbers from 1; with any other the answer is 3.
+fn are_numbered<M: Machine>(file: &[u8], records: &[Record]) {
+    for (number, &record) in (1..).zip(records) {
+        let answer = Answer::Done;
+        let read = RecordRead { answer, record };
+        assert_eq!(M::take_record(file, number), read, "{number}");
     }
-    for number in [0, 4, 5, 1 << 32, 1 << 61, usize::MAX] {
-        assert_eq!(M::take_record(&file, number), Record::default());
+    let past = records.len() + 1;
+    for number in [0, past, past + 1, 1 << 32, 1 << 61, usize::MAX] {
+        no_record::<M>(file, number, Answer::NothingThere);
     }
 }
 
-held!(records_where_the_trailer_is_met, fails_with NoRecordsThoughMet);
-fn records_where_the_trailer_is_met<M: Machine>() {
-    // A bad record is given like the others.
+/// A record is refused, and nothing is given.
+fn no_record<M: Machine>(file: &[u8], number: usize, answer: Answer) {
+    let record = Record::default();
+    let read = RecordRead { answer, record };
+    assert_eq!(M::take_record(file, number), read, "{number}");
+}
+
+held!(records_count_from_1, fails_with RecordFrom0, NoSuchRecordServed);
+fn records_count_from_1<M: Machine>() {
+    let records = lined(&[3, 4, 5]);
+    are_numbered::<M>(&file_of(b"comment", &records), &records);
+    are_numbered::<M>(&file_of(b"comment", &[]), &[]);
+}
+
+held!(a_bad_record_is_given, fails_with NoRecordsThoughMet);
+fn a_bad_record_is_given<M: Machine>() {
     let records = [undo(9), record(3, (7, 0x1234, 0x56)), undo(2)];
-    let mut file = file_of(b"", &records);
-    for (number, record) in (1..).zip(&records) {
-        assert_eq!(M::take_record(&file, number), *record);
-    }
-    file.insert(0, 0);
-    for number in 0..5 {
-        assert_eq!(M::take_record(&file, number), Record::default());
-        assert_eq!(M::take_record(&file[..3], number), Record::default());
+    are_numbered::<M>(&file_of(b"", &records), &records);
+}
+
+held!(records_are_refused_as_the_trailer_is, fails_with NumberBeforeTrailer);
+fn records_are_refused_as_the_trailer_is<M: Machine>() {
+    let file = file_of(b"comment", &lined(&[3, 4, 5]));
+    let gap = [b" ", &file[..]].concat();
+    for number in [0, 1, 3, 4, usize::MAX] {
+        no_record::<M>(&gap, number, Answer::NotMet);
+        no_record::<M>(&file[1..], number, Answer::NotMet);
+        for short in [&file[..0], &file[..3], &file[..file.len() - 1]] {
+            no_record::<M>(short, number, Answer::NoTrailer);
+        }
     }
 }
 

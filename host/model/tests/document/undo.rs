@@ -246,6 +246,30 @@ fn writes_and_undos_in_any_order<M: Machine>() {
 }
 
 // Of a new chip, and of one whose writes are all taken back.
+// A slider's gesture of 300 events: each undone before the next it is one entry, with
+// what was there before the gesture; else it fills the record with itself.
+held!(a_gesture_is_one_entry, fails_with WrittenByteBack);
+fn a_gesture_is_one_entry<M: Machine>() {
+    for (address, before) in [(0x6400, 0x70), (0x4123, 0x05), (0x6C02, 0x09)] {
+        let (mut chip, mut store) = (M::open(), [0; STORE]);
+        assert_eq!(chip.page_write(&mut store, address, before), 0);
+        let (state, pixels) = (chip.state(), store);
+        for event in 1..=300 {
+            if event > 1 {
+                assert_eq!(chip.undo(&mut store), 0);
+            }
+            assert_eq!(chip.page_write(&mut store, address, event as u8), 0);
+        }
+        assert_eq!(chip.record(), [(address, before), (address, 0)]);
+        assert_eq!(chip.undo(&mut store), 0);
+        assert_eq!((chip.state(), store), (state, pixels));
+        for event in 1..=300 {
+            assert_eq!(chip.page_write(&mut store, address, event as u8), 0);
+        }
+        assert_eq!(chip.record().len(), 256);
+    }
+}
+
 held!(nothing_to_undo, fails_with EmptyServed);
 fn nothing_to_undo<M: Machine>() {
     let mut store = [0x77; STORE];

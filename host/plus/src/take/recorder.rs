@@ -1,7 +1,7 @@
 //! A chip that notes the calls made on it.
 
 use super::{kind, Record};
-use crate::{answer, Access, Chip, Report};
+use crate::{Access, Answer, Chip, Report};
 use std::error::Error;
 use std::fmt;
 use std::ops::Deref;
@@ -25,17 +25,21 @@ pub enum Noted {
 ///
 /// ```
 /// use plus::take::{kind, Noted, Recorder};
-/// use plus::{Access, RAM, STORE, UNLOCK};
+/// use plus::{Access, Answer, RAM, STORE, UNLOCK};
 ///
 /// let (ram, mut store) = (vec![0; RAM], vec![0; STORE]);
 /// let mut chip = Recorder::new(Noted::Changes);
-/// UNLOCK.map(|byte| chip.write_bc(byte));
-/// chip.write_7f(0xB8); // maps the register page in
-/// chip.step(&ram, [Access::Off; 3]);
-/// chip.step(&ram, [Access::Off; 3]);
-/// chip.write_7f(0xB8); // is mapped in already
-/// chip.page_write(&mut store, 0x6800, 100);
-/// chip.page_write(&mut store, 0x7000, 100); // refused: nothing is there
+/// for byte in UNLOCK {
+///     chip.write_bc(byte);
+/// }
+/// chip.write_7f(0xB8).served()?; // maps the register page in
+/// for _ in 0..2 {
+///     let (answer, _report) = chip.step(&ram, [Access::Off; 3]);
+///     answer.served()?;
+/// }
+/// chip.write_7f(0xB8).served()?; // is mapped in already
+/// chip.page_write(&mut store, 0x6800, 100).served()?;
+/// assert_eq!(chip.page_write(&mut store, 0x7000, 100), Answer::NothingThere);
 /// assert_eq!(chip.video.pri, 100);
 ///
 /// let records = chip.records()?;
@@ -44,7 +48,7 @@ pub enum Noted {
 /// assert_eq!((mapped.line, mapped.kind, mapped.value), (0, kind::WRITE_7F, 0xB8));
 /// assert_eq!((written.line, written.kind), (2, kind::PAGE_WRITE));
 /// assert_eq!((written.address, written.value), (0x6800, 100));
-/// # Ok::<(), plus::take::TooLate>(())
+/// # Ok::<(), Box<dyn std::error::Error>>(())
 /// ```
 #[derive(Clone, Debug)]
 pub struct Recorder {
@@ -83,29 +87,33 @@ impl Recorder {
     }
 
     /// [`Chip::write_bc`], noted.
-    pub fn write_bc(&mut self, byte: u8) -> u8 {
+    pub fn write_bc(&mut self, byte: u8) -> Answer {
         self.note(kind::WRITE_BC, 0, byte, |chip| chip.write_bc(byte))
     }
 
     /// [`Chip::write_bd`], noted.
-    pub fn write_bd(&mut self, byte: u8) -> u8 {
+    #[must_use]
+    pub fn write_bd(&mut self, byte: u8) -> Answer {
         self.note(kind::WRITE_BD, 0, byte, |chip| chip.write_bd(byte))
     }
 
     /// [`Chip::write_7f`], noted.
-    pub fn write_7f(&mut self, byte: u8) -> u8 {
+    #[must_use]
+    pub fn write_7f(&mut self, byte: u8) -> Answer {
         self.note(kind::WRITE_7F, 0, byte, |chip| chip.write_7f(byte))
     }
 
     /// [`Chip::page_write`], noted.
-    pub fn page_write(&mut self, store: &mut [u8], address: u16, byte: u8) -> u8 {
+    #[must_use]
+    pub fn page_write(&mut self, store: &mut [u8], address: u16, byte: u8) -> Answer {
         self.note(kind::PAGE_WRITE, address, byte, |chip| {
             chip.page_write(store, address, byte)
         })
     }
 
     /// [`Chip::acknowledge`], noted.
-    pub fn acknowledge(&mut self) -> (u8, u8) {
+    #[must_use]
+    pub fn acknowledge(&mut self) -> (Answer, u8) {
         let mut vector = 0;
         let answer = self.note(kind::ACKNOWLEDGE, 0, 0, |chip| {
             let (answer, served) = chip.acknowledge();
@@ -116,21 +124,24 @@ impl Recorder {
     }
 
     /// [`Chip::undo`], noted.
-    pub fn undo(&mut self, store: &mut [u8]) -> u8 {
+    #[must_use]
+    pub fn undo(&mut self, store: &mut [u8]) -> Answer {
         self.note(kind::UNDO, 0, 0, |chip| chip.undo(store))
     }
 
     /// [`Chip::step`], counted if it is served.
-    pub fn step(&mut self, ram: &[u8], accesses: [Access; 3]) -> (u8, Report) {
+    #[must_use]
+    pub fn step(&mut self, ram: &[u8], accesses: [Access; 3]) -> (Answer, Report) {
         let (answer, report) = self.chip.step(ram, accesses);
-        if answer == answer::DONE {
+        if answer == Answer::Done {
             self.line = self.line.and_then(|line| line.checked_add(1));
         }
         (answer, report)
     }
 
     /// [`Chip::page_read`], which changes nothing.
-    pub fn page_read(&mut self, store: &[u8], address: u16, bus: u8) -> (u8, u8) {
+    #[must_use]
+    pub fn page_read(&self, store: &[u8], address: u16, bus: u8) -> (Answer, u8) {
         self.chip.page_read(store, address, bus)
     }
 
@@ -140,14 +151,14 @@ impl Recorder {
         kind: u8,
         address: u16,
         value: u8,
-        call: impl FnOnce(&mut Chip) -> u8,
-    ) -> u8 {
+        call: impl FnOnce(&mut Chip) -> Answer,
+    ) -> Answer {
         let before = *self.chip;
         let answer = call(&mut self.chip);
         // A write that is kept and an undo move the place of the record, so that the
         // store and the record never change without the state.
         let changed = *self.chip != before;
-        if answer == answer::DONE && (changed || self.noted == Noted::Served) {
+        if answer == Answer::Done && (changed || self.noted == Noted::Served) {
             self.push(kind, address, value);
         }
         answer

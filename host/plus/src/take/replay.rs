@@ -1,7 +1,7 @@
 //! A take played from reset.
 
 use super::Refused;
-use crate::{answer, ffi, Chip, PLACES};
+use crate::{ffi, version, Answer, Chip, PLACES};
 
 /// How many counts a replay keeps: one for each answer number up to 23.
 pub const COUNTS: usize = 24;
@@ -9,8 +9,8 @@ pub const COUNTS: usize = 24;
 /// What a replay gives.
 #[derive(Clone, Debug)]
 pub struct Replayed {
-    /// The number answered: 0, 1, 11, 12 or 13.
-    pub answer: u8,
+    /// What was answered: number 0, 1, 11, 12 or 13.
+    pub answer: Answer,
     /// With 13 the number of the first bad record, from 1.
     pub bad: usize,
     /// The chip after the last record, with its record of page writes; after a
@@ -31,7 +31,7 @@ pub struct Replayed {
 ///
 /// ```
 /// use plus::take::{file_of, kind, replay, Record, Refused};
-/// use plus::{answer, RAM, STORE};
+/// use plus::{Answer, RAM, STORE};
 ///
 /// let record = |line, kind, address, value| Record { line, kind, address, value };
 /// let records = [
@@ -45,14 +45,16 @@ pub struct Replayed {
 /// let played = replay(&ram, &mut store, &file).served()?;
 /// assert_eq!(played.lines, 5);
 /// assert_eq!((played.chip.crtc.counters.rc, played.chip.gate.mode), (5, 2));
-/// assert_eq!(played.counts[usize::from(answer::NOT_MAPPED)], 1);
+/// assert_eq!(played.counts[Answer::NotMapped as usize], 1);
 /// assert_eq!(played.counts.iter().sum::<u32>(), 1);
 ///
 /// let refused = replay(&ram, &mut store, b"no take").served().unwrap_err();
-/// assert_eq!(refused, Refused { answer: answer::NO_TRAILER, record: 0 });
+/// assert_eq!(refused, Refused { answer: Answer::NoTrailer, record: 0 });
 /// # Ok::<(), Refused>(())
 /// ```
+#[must_use]
 pub fn replay(ram: &[u8], store: &mut [u8], file: &[u8]) -> Replayed {
+    version::check();
     let mut places = [0; PLACES];
     // SAFETY: the library reads and writes only within the slices it is lent.
     let ffi::Replayed {
@@ -84,7 +86,7 @@ pub fn replay(ram: &[u8], store: &mut [u8], file: &[u8]) -> Replayed {
 impl Replayed {
     /// Itself where it was served, else the refusal.
     pub fn served(self) -> Result<Replayed, Refused> {
-        if self.answer == answer::DONE {
+        if self.answer == Answer::Done {
             return Ok(self);
         }
         Err(Refused {

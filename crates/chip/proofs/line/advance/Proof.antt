@@ -1,6 +1,6 @@
 -- `chip::line::advance`: refused by the length of RAM, else the counters and the sound.
 use borrow.Author.Tests.{ne-eqb}
-use Rattle.chip.specs.Step.{stepAnswer, idleReport}
+use Rattle.chip.specs.Step.{stepAnswer}
 use borrow.Author.Needs.{needs}
 use Rattle.chip.proofs.line.advance.Statement.{statement}
 use Rattle.chip.proofs.line.advance.Tie as tie

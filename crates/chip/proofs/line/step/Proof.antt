@@ -5,15 +5,15 @@ use mathlib.Core.List.{List}
 use Prim.Native.Nat.{ℕ, _≤_}
 use native.Mathlib.Omega.{arith}
 use lib.Dec.{eqb}
-use Rattle.words.specs.Answers.{done}
-use Rattle.words.specs.Choice.{if, either}
+use Rattle.common.specs.Answers.{done}
+use Rattle.common.specs.Choice.{if, either}
 use Rattle.sound.specs.declared.Accesses.{Accesses}
 use Rattle.sound.specs.Line.{soundAfter, soundReport}
 use Rattle.sound.proofs.Laws.{line-cycles}
 use Rattle.crtc.specs.Line.{lineOf}
 use Rattle.chip.specs.declared.Chip.{Chip}
 use Rattle.chip.specs.State.{withSound, withCounters, withRaster}
-use Rattle.chip.specs.Step.{stepAnswer, idleReport, counted, stepped}
+use Rattle.chip.specs.Step.{stepAnswer, idleReport, countersStepped, stepped}
 use borrow.Author.Needs.{needs}
 use Rattle.chip.proofs.line.step.Statement.{statement}
 use Rattle.chip.proofs.line.step.Tie as tie
@@ -29,7 +29,7 @@ module _ (c : Chip) (ram : List ℕ) where
       (if t (lineOf (c .crtc .registers) (c .video) (c .crtc .counters) .counters) (c .crtc .counters)))
       (either (if t (lineOf (c .crtc .registers) (c .video) (c .crtc .counters) .raster) false) (c .interrupts .raster))
       ≡ if t (stepped ram c) c
-  unfolding stepped counted
+  unfolding stepped countersStepped
   put-back true = refl
   put-back false = refl
 

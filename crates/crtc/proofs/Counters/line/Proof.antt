@@ -10,17 +10,17 @@ raster-due-requires c κs = search needs
 captured-requires : tie.Need-captured-requires
 captured-requires c κs = search needs
 
-counted-requires : tie.Need-counted-requires
-counted-requires c κs = search needs
+next-line-requires : tie.Need-next-line-requires
+next-line-requires c κs = search needs
 
 returns : tie.Need-returns
 unfolding lineOf
 returns c =
     simp (
-      c .counted .ensures,
+      c .next-line .ensures,
       c .before .captured .ensures,
       c .before .before .raster-due .ensures,
     )
 
 pub line-spec : {M : Type 1} → statement M
-line-spec = tie.close (tie.spec raster-due-requires captured-requires counted-requires returns)
+line-spec = tie.close (tie.spec raster-due-requires captured-requires next-line-requires returns)

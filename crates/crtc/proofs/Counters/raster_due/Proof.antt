@@ -3,7 +3,7 @@ use mathlib.Core.Bool.{Bool, true, false, not}
 use mathlib.Core.Path.{_≡_, refl}
 use borrow.Author.Needs.{needs}
 use borrow.Author.Tests.{eq-eqb, ne-eqb}
-use Rattle.words.specs.Choice.{both}
+use Rattle.common.specs.Choice.{both}
 use Rattle.crtc.specs.Line.{rasterDue}
 use Rattle.crtc.proofs.Counters.raster_due.Statement.{statement}
 use Rattle.crtc.proofs.Counters.raster_due.Tie as tie

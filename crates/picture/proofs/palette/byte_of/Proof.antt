@@ -4,7 +4,7 @@ use mathlib.Core.Bool.{true, false}
 use Prim.Native.Nat.{ℕ, _%_}
 use lib.Dec.{eqb}
 use lib.ListN.{List·getD-eq-default}
-use Rattle.words.specs.Choice.{if}
+use Rattle.common.specs.Choice.{if}
 use borrow.Author.Needs.{needs}
 use Rattle.picture.specs.Palette.{keptByte}
 use Rattle.picture.proofs.palette.byte_of.Statement.{statement}

@@ -1,7 +1,6 @@
 -- `address::channel_at`: 6C0Fh, the addresses before it that only read, and each channel's three registers.
 use borrow.Author.Needs.{needs}
 use borrow.Author.Tests.{ne-eqb, le-leb, lt-leb}
-use native.Mathlib.Omega.{arith}
 use Rattle.registers.specs.Address.{channelAt}
 use Rattle.registers.proofs.address.channel_at.Statement.{statement}
 use Rattle.registers.proofs.address.channel_at.Tie as tie

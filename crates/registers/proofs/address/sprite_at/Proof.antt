@@ -1,7 +1,6 @@
 -- `address::sprite_at`: +0 to +3 are the coordinates, the rest is magnification.
 use borrow.Author.Needs.{needs}
 use borrow.Author.Tests.{lt-ltb, le-ltb}
-use native.Mathlib.Omega.{arith}
 use Rattle.registers.specs.Address.{spriteAt}
 use Rattle.registers.proofs.address.sprite_at.Statement.{statement}
 use Rattle.registers.proofs.address.sprite_at.Tie as tie

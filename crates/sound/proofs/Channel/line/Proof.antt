@@ -4,18 +4,18 @@ use mathlib.Core.Bool.{Bool, true, false}
 use mathlib.Core.List.{List}
 use mathlib.Core.Path.{_≡_, refl, _∙_}
 use Prim.Native.Nat.{ℕ}
-use Rattle.words.specs.Choice.{if, both}
+use Rattle.common.specs.Choice.{if, both}
 use Rattle.words.specs.Words.{kindOf, low12}
 use Rattle.words.specs.declared.WordKind.{WordKind}
 use Rattle.sound.specs.declared.Channel.{Channel}
 use Rattle.sound.specs.declared.Did.the-variants.{SatOut, Executed}
-use Rattle.sound.specs.Channels.{wordAt, counted, active, fetched, executed, played, turnOf}
+use Rattle.sound.specs.Channels.{wordAt, pauseCounted, active, fetched, executed, wordPlayed, turnOf}
 use Rattle.sound.proofs.Channel.line.Statement.{statement}
 use Rattle.sound.proofs.Channel.line.Tie as tie
 
 -- a channel that is off
 off : (ram : List ℕ) (s : Channel) → s .enabled ≡ false → record { channel = s; did = SatOut } ≡ turnOf ram s
-unfolding counted active turnOf
+unfolding pauseCounted active turnOf
 off ram s h = rw h
 
 -- a channel that still pauses once it has been counted: s before, c after
@@ -23,7 +23,7 @@ both-false : (b : Bool) → both b false ≡ false
 both-false true = refl
 both-false false = refl
 
-pausing : (ram : List ℕ) (s c : Channel) → c ≡ counted s → (c .pause ≡ 0 → ⊥) →
+pausing : (ram : List ℕ) (s c : Channel) → c ≡ pauseCounted s → (c .pause ≡ 0 → ⊥) →
     record { channel = c; did = SatOut } ≡ turnOf ram s
 unfolding active turnOf
 pausing ram s c e h = rw (← e, ne-eqb (c .pause) 0 h, both-false)
@@ -33,28 +33,28 @@ if-enabled : (b : Bool) (x y : Channel) → x .enabled ≡ y .enabled → if b x
 if-enabled true x y h = h
 if-enabled false x y h = refl
 
-still-on : (s : Channel) → counted s .enabled ≡ s .enabled
-unfolding counted
+still-on : (s : Channel) → pauseCounted s .enabled ≡ s .enabled
+unfolding pauseCounted
 still-on s = simp if-enabled
 
-word-due : (ram : List ℕ) (s c : Channel) → s .enabled ≡ true → c ≡ counted s → c .pause ≡ 0 →
-    played c (wordAt ram (c .address)) ≡ turnOf ram s
+word-due : (ram : List ℕ) (s c : Channel) → s .enabled ≡ true → c ≡ pauseCounted s → c .pause ≡ 0 →
+    wordPlayed c (wordAt ram (c .address)) ≡ turnOf ram s
 unfolding active turnOf
 word-due ram s c on e p = rw (← e, rw (← e) at (still-on s) ∙ on, p)
 
 -- f has fetched the word w from c, and x has executed it
 word-done : (c f x : Channel) (v w l : ℕ) (k : WordKind) → v ≡ w → k ≡ kindOf v → l ≡ low12 v → f ≡ fetched c →
-    x ≡ executed k l f → record { channel = x; did = Executed k l } ≡ played c w
+    x ≡ executed k l f → record { channel = x; did = Executed k l } ≡ wordPlayed c w
 word-done c f x v w l k ev ek el ef ex = rw (ex, ef, ek, el, ev)
 
 returns : tie.Need-returns
 returns c = off _ _ (not-true _ (c .if1 .taken))
 
-counted-requires : tie.Need-counted-requires
-counted-requires c κs = not-false _ (c .if1 .left)
+pause-counted-requires : tie.Need-pause-counted-requires
+pause-counted-requires c κs = not-false _ (c .if1 .left)
 
 returns-2 : tie.Need-returns-2
-returns-2 c = pausing _ _ _ (c .before .before .counted .ensures) (c .if2 .taken)
+returns-2 c = pausing _ _ _ (c .before .before .pause-counted .ensures) (c .if2 .taken)
 
 word-at-requires : tie.Need-word-at-requires
 word-at-requires c κs = tt
@@ -92,7 +92,7 @@ returns-3 c =
     _
     _
     (not-false _ (w .before .before .before .before .if1 .left))
-    (w .before .before .before .counted .ensures)
+    (w .before .before .before .pause-counted .ensures)
     (w .before .if2 .left)
 
 pub line-spec : {M : Type 1} → statement M
@@ -100,7 +100,7 @@ line-spec =
     tie.close
     (tie.spec
     returns
-    counted-requires
+    pause-counted-requires
     returns-2
     word-at-requires
     kind-of-requires

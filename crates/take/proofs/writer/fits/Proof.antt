@@ -3,7 +3,7 @@ use borrow.Author.Tests.{lt-ltb, le-ltb}
 use borrow.Author.Needs.{needs}
 use Prim.Native.Nat.{_^_, _≤_, _<_}
 use Rattle.take.specs.Parts.{fitting}
-use Rattle.take.proofs.Tests.{and-true, and-false}
+use Rattle.common.proofs.Tests.{and-true, and-false}
 use Rattle.take.proofs.writer.fits.Statement.{statement}
 use Rattle.take.proofs.writer.fits.Tie as tie
 

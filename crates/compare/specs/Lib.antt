@@ -1,0 +1,2 @@
+-- The code's own: a part of a line at a place of a text.
+pub mod Parts

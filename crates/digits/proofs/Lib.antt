@@ -1,0 +1,2 @@
+-- Laws of the digits of a number.
+pub mod Digits

@@ -1,0 +1,2 @@
+-- The digits of a number.
+pub mod Digits

@@ -1,0 +1,3 @@
+-- Laws of a word's line.
+pub mod Lines
+pub mod Ends

@@ -1,0 +1,107 @@
+-- What a call is to claims over runs. A claim that treats calls alike goes by these cases, and a call that is like another is named here
+-- alone.
+use mathlib.Core.Path.{_≡_, refl, ap}
+use mathlib.Core.List.{[]}
+use Prim.Native.Nat.{ℕ}
+use Rattle.ring.specs.declared.Undo.{Undo}
+use Rattle.sound.specs.declared.Accesses.{Accesses}
+use Rattle.sound.specs.Line.{channelOf}
+use Rattle.chip.specs.declared.Chip.{Chip}
+use Rattle.chip.specs.Channels.{Aside}
+use Rattle.chip.specs.Ports.{selected, dataWritten, gateWritten}
+use Rattle.chip.specs.Interrupts.{acknowledged}
+use Rattle.chip.specs.State.{withUndo}
+use Rattle.chip.proofs.ChannelLaws.{aside-self, acknowledge-leaves}
+use Rattle.registers.specs.Address.{registerAt}
+use Rattle.registers.specs.Registers.{registerWritten}
+use Rattle.contents.specs.Widths.{Widths}
+use Rattle.page.specs.UndoRecord.{entryAddress, entryContents}
+use Rattle.page.specs.Page.{pageWritten}
+use Rattle.page.specs.Undo.{newest, undone}
+use Rattle.runs.specs.World.{Buffers, World, withChip}
+use Rattle.runs.specs.Call.{Call, bc, bd, gate, read, write, undo, ack, line, lend, servedWorld}
+use Rattle.runs.specs.Sort as sort
+use Rattle.runs.specs.Sort.{sortOf}
+use Rattle.runs.proofs.ChipWidths.{beside, acknowledged-widths}
+
+-- what stays over a call that is neither an edit, nor a line step, nor lends: the buffers and the undo record; of a channel all but its
+-- interrupt; the widths
+pub record Leaves (w v : World) : Type 0 where
+  pub lent : v .lent ≡ w .lent
+  pub undo-record : v .chip .editing .undo ≡ w .chip .editing .undo
+  pub channel : (n : ℕ) → Aside (channelOf (w .chip .sound .channels) n) (channelOf (v .chip .sound .channels) n)
+  pub widths : Widths (w .chip) → Widths (v .chip)
+
+-- a page write and an undo: a byte to the register at an address, with another undo record, store and places
+pub record Edits (w v : World) (address byte : ℕ) : Type 0 where
+  pub undo-record : Undo
+  pub chip : v .chip ≡ withUndo (registerWritten (w .chip) (registerAt address) byte) undo-record
+
+pub data View (w : World) : Call → Type 0 where
+  feeds : (b : ℕ) → Leaves w (servedWorld w (bc b)) → View w (bc b)
+  writes : (a b : ℕ) → Edits w (servedWorld w (write a b)) a b → View w (write a b)
+  undoes :
+      Edits w (servedWorld w undo) (entryAddress (newest (w .chip) (w .lent .places))) (entryContents (newest (w .chip) (w .lent .places))) →
+      View w undo
+  steps : (a : Accesses) → View w (line a)
+  lends : (b : Buffers) → View w (lend b)
+  plain :
+      {c : Call} → sortOf c ≡ sort.plain → servedWorld w c .chip .lock ≡ w .chip .lock → Leaves w (servedWorld w c) → View w c
+
+-- a chip that differs in lock, gate array, 6845, raster flags alone
+ports : (w : World) (d : Chip) → d .sprites ≡ w .chip .sprites → d .palette ≡ w .chip .palette → d .video ≡ w .chip .video →
+    d .sound ≡ w .chip .sound → d .interrupts .ivr ≡ w .chip .interrupts .ivr → d .editing ≡ w .chip .editing →
+    Leaves w (withChip w d)
+ports w d e f g h i j =
+    record {
+      lent = refl;
+      undo-record = rw j;
+      channel = λ n. rw h (aside-self (channelOf (w .chip .sound .channels) n));
+      widths = beside (w .chip) d e f g (rw h) i;
+    }
+
+acknowledge-all : (w : World) → Leaves w (withChip w (acknowledged (w .chip)))
+unfolding acknowledged
+acknowledge-all w =
+    record {
+      lent = refl;
+      undo-record = refl;
+      channel = acknowledge-leaves (w .chip);
+      widths = acknowledged-widths (w .chip);
+    }
+
+pub view : (w : World) (c : Call) → View w c
+unfolding selected dataWritten gateWritten acknowledged pageWritten undone
+view w (bc b) = feeds b (ports w (selected (w .chip) b) refl refl refl refl refl refl)
+view w (bd b) = plain refl refl (ports w (dataWritten (w .chip) b) refl refl refl refl refl refl)
+view w (gate b) = plain refl refl (ports w (gateWritten (w .chip) b) refl refl refl refl refl refl)
+view w (read a bus) = plain refl refl (ports w (w .chip) refl refl refl refl refl refl)
+view w (write a b) = writes a b (record { undo-record = _; chip = refl })
+view w undo = undoes (record { undo-record = _; chip = refl })
+view w ack = plain refl refl (acknowledge-all w)
+view w (line a) = steps a
+view w (lend b) = lends b
+
+-- a call is a line step or none
+pub data LineView : Call → Type 0 where
+  step : (a : Accesses) → LineView (line a)
+  other : {c : Call} → sort.lineIn (sortOf c) ≡ [] → LineView c
+
+line-of : {w : World} {c : Call} → View w c → LineView c
+line-of (feeds b l) = other refl
+line-of (writes a b e) = other refl
+line-of (undoes e) = other refl
+line-of (steps a) = step a
+line-of (lends b) = other refl
+line-of (plain s q l) = other (ap sort.lineIn s)
+
+pub line-view : (w : World) (c : Call) → LineView c
+line-view w c = line-of (view w c)
+
+-- what holds of every call but a line step follows from what else holds of it
+pub on-line : (w : World) (P : Accesses → Type 0) (Q R : Type 0) (c : Call) → (Q → R) → sort.onLine P Q c → sort.onLine P R c
+on-line w P Q R c f x = go c (line-view w c) x
+  where
+    go : (c : Call) → LineView c → sort.onLine P Q c → sort.onLine P R c
+    go c (step a) x = x
+    go c (other e) x = rw e (f (rw e at x))

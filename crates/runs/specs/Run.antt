@@ -1,0 +1,94 @@
+-- Calls made one after the other, each known by its contract alone, as a caller learns it.
+use mathlib.Core.Path.{_≡_}
+use mathlib.Core.List.{List, [], _∷_, map}
+use Prim.Native.Nat.{ℕ}
+use contract.Lifetimes.{Lfts}
+use denote.Ref.{RefT, now, at-last}
+use Rattle.common.specs.Answers.{done}
+use Rattle.sound.specs.declared.Accesses.{Accesses}
+use Rattle.chip.specs.declared.Answered.{Answered}
+use Rattle.chip.specs.declared.Acknowledged.{Acknowledged}
+use Rattle.chip.specs.declared.Stepped.{Stepped}
+use Rattle.page.specs.declared.ByteRead.{ByteRead}
+use Rattle.chip.proofs.ports.write_bc.Reads as write-bc
+use Rattle.chip.proofs.ports.write_bd.Reads as write-bd
+use Rattle.chip.proofs.ports.write_7f.Reads as write-7f
+use Rattle.chip.proofs.acknowledge.acknowledge.Reads as acknowledge
+use Rattle.chip.proofs.line.step.Reads as step
+use Rattle.page.proofs.page_read.Reads as page-read
+use Rattle.page.proofs.page_write.Reads as page-write
+use Rattle.page.proofs.undo.Reads as page-undo
+use Rattle.runs.specs.World.{Buffers, World, withChip, edited}
+use Rattle.runs.specs.Call as call
+use Rattle.runs.specs.Call.{Call, Reply, byte, vector, report, number, replyTo, worldAfter}
+
+-- a call made on a world: its reply, and the world that it leaves
+pub data Makes (w : World) : Call → Reply → World → Type 0 where
+  bc :
+      (b : ℕ) (r : Answered) →
+      write-bc.Learnt tt (w .chip, (b, tt)) r (w .chip, (b, tt)) →
+      Makes w (call.bc b) (number (r .answer)) (withChip w (r .chip))
+  bd :
+      (b : ℕ) (r : Answered) →
+      write-bd.Learnt tt (w .chip, (b, tt)) r (w .chip, (b, tt)) →
+      Makes w (call.bd b) (number (r .answer)) (withChip w (r .chip))
+  gate :
+      (b : ℕ) (r : Answered) →
+      write-7f.Learnt tt (w .chip, (b, tt)) r (w .chip, (b, tt)) →
+      Makes w (call.gate b) (number (r .answer)) (withChip w (r .chip))
+  read :
+      (κs : Lfts 1) (store : RefT (List ℕ)) (a bus : ℕ) (r : ByteRead) → now store ≡ w .lent .store →
+      page-read.Learnt κs (w .chip, (store, (a, (bus, tt)))) r (w .chip, (store, (a, (bus, tt)))) →
+      Makes w (call.read a bus) (record { answer = r .answer; told = byte (r .byte) }) w
+  write :
+      (κs : Lfts 2) (store places : RefT (List ℕ)) (store' places' : List ℕ) (a b : ℕ) (r : Answered) →
+      now store ≡ w .lent .store → now places ≡ w .lent .places →
+      page-write.Learnt κs (w .chip, (store, (places, (a, (b, tt))))) r
+      (w .chip, (at-last store store', (at-last places places', (a, (b, tt))))) →
+      Makes w (call.write a b) (number (r .answer)) (edited w (r .chip) store' places')
+  undo :
+      (κs : Lfts 2) (store places : RefT (List ℕ)) (store' : List ℕ) (r : Answered) →
+      now store ≡ w .lent .store → now places ≡ w .lent .places →
+      page-undo.Learnt κs (w .chip, (store, (places, tt))) r (w .chip, (at-last store store', (places, tt))) →
+      Makes w call.undo (number (r .answer)) (edited w (r .chip) store' (w .lent .places))
+  ack :
+      (r : Acknowledged) → acknowledge.Learnt tt (w .chip, tt) r (w .chip, tt) →
+      Makes w call.ack (record { answer = r .answer; told = vector (r .vector) }) (withChip w (r .chip))
+  line :
+      (κs : Lfts 1) (ram : RefT (List ℕ)) (a : Accesses) (r : Stepped) → now ram ≡ w .lent .ram →
+      step.Learnt κs (w .chip, (ram, (a, tt))) r (w .chip, (ram, (a, tt))) →
+      Makes w (call.line a) (record { answer = r .answer; told = report (r .report) }) (withChip w (r .chip))
+  lend : (b : Buffers) → Makes w (call.lend b) (number done) (record { chip = w .chip; lent = b })
+
+-- one call of a run: the world before it, the call, its reply, the world after it
+pub record Made : Type 0 where
+  pub before : World
+  pub asks : Call
+  pub reply : Reply
+  pub after : World
+
+-- a run: each call gets the world that the last one left
+pub data Run : World → List Made → World → Type 0 where
+  ended : {w : World} → Run w [] w
+  on :
+      {w v u : World} {c : Call} {r : Reply} {es : List Made} → Makes w c r v → Run v es u →
+      Run w (record { before = w; asks = c; reply = r; after = v } ∷ es) u
+
+-- its calls
+abbrev pub callsOf : List Made → List Call
+callsOf es = map (λ (e : Made). e .asks) es
+
+-- what holds of each of them
+abbrev pub Each : (Made → Type 0) → List Made → Type 0
+Each P [] = Unit {0}
+Each P (e ∷ es) = P e × Each P es
+
+-- ---- the same by the calls' functions: a law says that every run is so, and that there is one for every list of calls
+abbrev pub madeOver : World → List Call → List Made
+madeOver w [] = []
+madeOver w (c ∷ cs) =
+    record { before = w; asks = c; reply = replyTo w c; after = worldAfter w c } ∷ madeOver (worldAfter w c) cs
+
+abbrev pub worldOver : World → List Call → World
+worldOver w [] = w
+worldOver w (c ∷ cs) = worldOver (worldAfter w c) cs
