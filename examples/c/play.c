@@ -1,6 +1,7 @@
-/* Reads a sound list from text and prints it, forecasts it, then plays it on channel 0 up to its STOP and counts the same numbers: the
- * least cycles with the processor off the 8255, the most with PSG register writes on every line. A slip on the way is undone. The calls
- * before the lines are written as a take, which is opened and played again. */
+/* Sees that the library is its header's, reads a sound list from text and prints it, forecasts it, then plays it on channel 0 up to its
+ * STOP and counts the same numbers: the least cycles with the processor off the 8255, the most with PSG register writes on every line.
+ * On the way a slider moves the prescale, and the gesture is undone. The calls before the lines are written as a take, which is opened
+ * and played again. */
 #include <stdio.h>
 #include <stdlib.h>
 #include <string.h>
@@ -19,7 +20,7 @@ static size_t noted;
 /* Ends the program at a refusal. */
 static void served(const char *call, uint8_t answer) {
     if (answer != PLUS_DONE) {
-        printf("%s: refused %u\n", call, answer);
+        printf("%s: refused %u: %s\n", call, answer, plus_answer_text(answer));
         exit(1);
     }
 }
@@ -27,6 +28,17 @@ static void served(const char *call, uint8_t answer) {
 static void note(uint8_t kind, uint16_t address, uint8_t value) {
     PlusRecord record = {.line = 0, .kind = kind, .address = address, .value = value};
     records[noted++] = plus_take_pack(record);
+}
+
+/* Ends the program if the library is not the one that the header is of. */
+static void fitting(void) {
+    PlusBuilt built = plus_built();
+    if (!plus_fits()) {
+        printf("the library is version %u with a state of %u bytes, the header %u with %zu\n", built.version, built.state,
+               PLUS_VERSION, sizeof(PlusChip));
+        exit(1);
+    }
+    printf("plus %s, a state of %u bytes\n", PLUS_VERSION_TEXT, built.state);
 }
 
 static PlusChip poke(PlusChip chip, uint16_t address, uint8_t byte) {
@@ -59,6 +71,16 @@ static PlusChip undo(PlusChip chip) {
     return undone.chip;
 }
 
+/* A gesture of some events on a register, which is one entry for undo: the contents before it. */
+static PlusChip slide(PlusChip chip, uint16_t address, uint8_t events) {
+    for (uint8_t event = 1; event <= events; event++) {
+        if (event > 1)
+            chip = undo(chip);
+        chip = poke(chip, address, event);
+    }
+    return chip;
+}
+
 /* Plays the list while the processor does one thing on every line. */
 static void play(const char *what, PlusChip chip, uint8_t access) {
     unsigned long lines = 0, cycles = 0;
@@ -80,7 +102,9 @@ static void put_take(const char *comment) {
 
     PlusOpened opened = plus_take_open(file, written.size);
     served("open", opened.answer);
-    PlusRecord last = plus_take_record(file, written.size, opened.count);
+    PlusRecordRead read = plus_take_record(file, written.size, opened.count);
+    served("record", read.answer);
+    PlusRecord last = read.record;
     printf("take: %zu bytes of %.*s, %zu records, the last %u to %04Xh\n", written.size, (int)opened.offset, (const char *)file,
            opened.count, last.value, last.address);
 
@@ -102,11 +126,12 @@ static PlusChip ready(void) {
     chip = poke(chip, 0x6C00, 0x00);       /* start address low, high, prescale, enable */
     chip = poke(chip, 0x6C01, 0x80);
     chip = poke(chip, 0x6C02, 0);
-    chip = undo(poke(chip, 0x6C02, 5)); /* another prescale would make the pause longer */
+    chip = undo(slide(chip, 0x6C02, 3)); /* another prescale would make the pause longer */
     return poke(chip, 0x6C0F, 0x01);
 }
 
 int main(void) {
+    fitting();
     put_list(song, 0x8000);
     PlusLength told = plus_forecast(ram, sizeof ram, 0x8000, 0);
     served("forecast", told.answer);

@@ -1,8 +1,7 @@
 //! Why a command gave nothing, what it says then, and its exit status.
 
-use crate::scene::Short;
-use plus::answer;
 use plus::take::Refused;
+use plus::Answer;
 use std::fmt;
 use std::io::{self, Write};
 use std::path::{Path, PathBuf};
@@ -13,17 +12,24 @@ use std::process::ExitCode;
 pub enum Failure {
     /// Wrong use: what was wrong, and what is expected.
     Usage { wrong: String, expected: String },
-    /// A call of the core was refused: its number, the line of a text or the
+    /// A call of the core was refused: its answer, the line of a text or the
     /// record of a take that it names, and what that means here.
     Refused {
-        number: u8,
+        answer: Answer,
         place: Option<(&'static str, usize)>,
         meaning: String,
     },
     /// A file can't be read or written.
     File { path: PathBuf, error: io::Error },
-    /// A scene ends early.
-    Short { path: PathBuf, short: Short },
+    /// The same of a file that a line of a text names.
+    Named {
+        text: PathBuf,
+        line: usize,
+        path: PathBuf,
+        error: io::Error,
+    },
+    /// A scene has faults: it ends early, or a letter of it is unknown.
+    Scene { path: PathBuf, faults: Vec<String> },
     /// A scene has no take.
     NoTake { path: PathBuf, why: String },
     /// Standard output can't be written.
@@ -32,9 +38,9 @@ pub enum Failure {
 
 impl Failure {
     /// A refusal that names no place.
-    pub fn refused(number: u8, meaning: String) -> Failure {
+    pub fn refused(answer: Answer, meaning: String) -> Failure {
         Failure::Refused {
-            number,
+            answer,
             place: None,
             meaning,
         }
@@ -44,13 +50,13 @@ impl Failure {
     pub fn refused_take(refused: Refused, path: &Path) -> Failure {
         let name = path.display();
         let meaning = match refused.answer {
-            answer::NO_TRAILER => format!("{name} has no trailer"),
-            answer::NOT_MET => format!("the records of {name} don't end at its trailer"),
-            answer::BAD_RECORD => format!("that record of {name} is bad"),
+            Answer::NoTrailer => format!("{name} has no trailer"),
+            Answer::NotMet => format!("the records of {name} don't end at its trailer"),
+            Answer::BadRecord => format!("that record of {name} is bad"),
             _ => format!("{name} would be too long"),
         };
         Failure::Refused {
-            number: refused.answer,
+            answer: refused.answer,
             place: (refused.record != 0).then_some(("record", refused.record)),
             meaning,
         }
@@ -61,6 +67,19 @@ impl Failure {
         move |error| Failure::File {
             path: path.to_owned(),
             error,
+        }
+    }
+
+    /// For a file that a line of a text names.
+    pub fn named_in(self, text: PathBuf, line: usize) -> Failure {
+        match self {
+            Failure::File { path, error } => Failure::Named {
+                text,
+                line,
+                path,
+                error,
+            },
+            other => other,
         }
     }
 
@@ -86,18 +105,31 @@ impl fmt::Display for Failure {
         match self {
             Failure::Usage { wrong, expected } => write!(f, "{wrong}\n{expected}"),
             Failure::Refused {
-                number,
+                answer,
                 place,
                 meaning,
             } => {
-                write!(f, "refused {number}")?;
+                write!(f, "refused {}", answer.number())?;
                 if let Some((part, place)) = place {
                     write!(f, " {part} {place}")?;
                 }
                 write!(f, ": {meaning}")
             }
             Failure::File { path, error } => write!(f, "{}: {error}", path.display()),
-            Failure::Short { path, short } => write!(f, "{}: {short}", path.display()),
+            Failure::Named {
+                text,
+                line,
+                path,
+                error,
+            } => {
+                let (text, path) = (text.display(), path.display());
+                write!(f, "{text}: line {line}: {path}: {error}")
+            }
+            Failure::Scene { path, faults } => {
+                let path = path.display();
+                let lines: Vec<String> = faults.iter().map(|f| format!("{path}: {f}")).collect();
+                f.write_str(&lines.join("\n"))
+            }
             Failure::NoTake { path, why } => write!(f, "{}: no take: {why}", path.display()),
             Failure::Output(error) => write!(f, "standard output: {error}"),
         }

@@ -1,7 +1,7 @@
 //! A whole frame in colour.
 
 use crate::player::Player;
-use plus::{answer, Access, LINE};
+use plus::{Access, Answer, LINE};
 
 /// The most lines that a frame can have: 128 rows of 32, and 31 of adjust.
 const LONGEST: usize = 128 * 32 + 31;
@@ -11,7 +11,7 @@ pub type Rows = Vec<Vec<u8>>;
 
 /// Steps on to the next frame's first line, and draws that frame. The number
 /// that drawing answered, if it was refused.
-pub fn next_frame(player: &mut Player) -> Result<Rows, u8> {
+pub fn next_frame(player: &mut Player) -> Result<Rows, Answer> {
     // A row can be past its last line, which takes a wrap of 32 lines more.
     for _ in 0..32 + LONGEST {
         if step(player) {
@@ -32,7 +32,8 @@ pub fn next_frame(player: &mut Player) -> Result<Rows, u8> {
 /// ends none.
 fn step(player: &mut Player) -> bool {
     let before = player.chip.crtc;
-    player.chip.step(&player.ram, [Access::Off; 3]);
+    let (answer, _) = player.chip.step(&player.ram, [Access::Off; 3]);
+    debug_assert_eq!(answer, Answer::Done);
     let (old, new) = (before.counters, player.chip.crtc.counters);
     let last_row = old.vc == before.registers.r4 && old.rc == before.registers.r9;
     let first_line = (new.vc, new.rc, new.adjust) == (0, 0, false);
@@ -40,10 +41,10 @@ fn step(player: &mut Player) -> bool {
 }
 
 /// The current line, each position in its colour.
-fn row(player: &Player) -> Result<Vec<u8>, u8> {
+fn row(player: &Player) -> Result<Vec<u8>, Answer> {
     let mut entries = [0; LINE];
     match player.chip.draw(&player.ram, &player.store, &mut entries) {
-        answer::DONE => Ok(entries.iter().flat_map(|&e| colour(player, e)).collect()),
+        Answer::Done => Ok(entries.iter().flat_map(|&e| colour(player, e)).collect()),
         refusal => Err(refusal),
     }
 }

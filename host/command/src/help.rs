@@ -1,43 +1,115 @@
 //! What `plus help` shows, and what wrong use is told.
 
-use crate::commands::{named, Command, COMMANDS};
+use crate::commands::Command;
 use crate::failure::Failure;
 use crate::output::Output;
 use crate::Done;
 use std::ffi::OsString;
+use std::iter;
+
+/// What all commands have in common, and then of each command, in the order of
+/// the overview: `# ` with its name and what it is given, what it does in a line,
+/// and all that there is to know of it; last `help` and `--version`, of which no
+/// more is to be known. The script `plus` shows the same text before anything is
+/// built.
+const TEXT: &str = include_str!("../help.txt");
+
+/// What the text says of a command.
+#[derive(Clone, Copy)]
+pub struct Entry {
+    /// Its name, and what it is given: in brackets what may be left out, there
+    /// with two dashes an option, and the word after it if it takes one.
+    pub call: &'static str,
+    /// What it does, in a line.
+    pub about: &'static str,
+    /// All that there is to know of it.
+    pub details: &'static str,
+}
 
 /// What all commands have in common.
-const COMMON: &str = "\
-Exit status: 0 done; 1 refused by the core, a file that can't be read or
-written, or a scene that ends early; 2 wrong use. Why is said on standard
-error; a refusal begins with `refused` and its number, then for a bad line of
-a text `line` and the line's number, for a bad record of a take `record` and
-the record's. It prints nothing on standard output and leaves an output file
-alone.";
+pub fn common() -> &'static str {
+    TEXT.split("\n# ").next().unwrap_or("").trim_end()
+}
+
+/// The commands, in the order of the overview.
+pub fn entries() -> impl Iterator<Item = Entry> {
+    TEXT.split("\n# ").skip(1).map(|text| {
+        let (call, rest) = text.split_once('\n').unwrap_or((text, ""));
+        let (about, details) = rest.split_once("\n\n").unwrap_or((rest.trim_end(), ""));
+        Entry {
+            call,
+            about,
+            details: details.trim_end(),
+        }
+    })
+}
+
+impl Entry {
+    /// That of a command.
+    pub fn of(command: &Command) -> Entry {
+        let named = |entry: &Entry| entry.name() == command.name;
+        let found = entries().find(named);
+        found.expect("the text has every command")
+    }
+
+    pub fn name(&self) -> &'static str {
+        self.call.split(' ').next().unwrap_or("")
+    }
+
+    /// What the command is given, each with its brackets.
+    pub fn parts(&self) -> impl Iterator<Item = &'static str> {
+        let mut rest = self.call[self.name().len()..].trim_start();
+        iter::from_fn(move || {
+            let end = match rest.find(if rest.starts_with('[') { ']' } else { ' ' }) {
+                Some(at) if rest.starts_with('[') => at + 1,
+                Some(at) => at,
+                None => rest.len(),
+            };
+            let (part, after) = rest.split_at(end);
+            rest = after.trim_start();
+            (!part.is_empty()).then_some(part)
+        })
+    }
+
+    fn usage(&self) -> String {
+        format!("usage: plus {}", self.call)
+    }
+}
 
 /// `plus help [COMMAND]`.
 pub fn show(words: &[OsString], output: &mut Output) -> Done {
     match words {
         [] => all(output),
         [name] if name == "help" => all(output),
-        [name] => of(named(name)?, output),
-        [_, extra, ..] => {
-            let wrong = format!("'{}' is one argument too many", extra.display());
-            Err(wrong_use(&wrong, "usage: plus help [COMMAND]".to_string()))
-        }
+        [name] => of(Command::named(name)?, output),
+        [_, extra, ..] => Err(too_many(extra, "help [COMMAND]")),
     }
+}
+
+/// `plus --version`.
+pub fn version(words: &[OsString], output: &mut Output) -> Done {
+    match words {
+        [] => output.line(format_args!("plus {}", env!("CARGO_PKG_VERSION"))),
+        [extra, ..] => Err(too_many(extra, "--version")),
+    }
+}
+
+fn too_many(extra: &OsString, call: &str) -> Failure {
+    let wrong = format!("'{}' is one argument too many", extra.display());
+    wrong_use(&wrong, format!("usage: plus {call}"))
 }
 
 /// The help on all commands.
 fn all(output: &mut Output) -> Done {
     output.line(overview())?;
-    output.line(format_args!("\n{COMMON}"))
+    output.line(format_args!("\n{}", common()))
 }
 
 /// The help on one command.
 pub fn of(command: &Command, output: &mut Output) -> Done {
-    output.line(usage(command))?;
-    output.line(format_args!("\n{}", command.details))
+    let entry = Entry::of(command);
+    output.line(entry.usage())?;
+    output.line(format_args!("\n{}", entry.details))
 }
 
 /// Wrong use that no command is known for.
@@ -47,9 +119,10 @@ pub fn wrong(what: &str) -> Failure {
 
 /// Wrong use of a command.
 pub fn wrong_for(command: &Command, what: &str) -> Failure {
-    let what = format!("{}: {what}", command.name);
-    let more = format!("`plus help {}` says more", command.name);
-    wrong_use(&what, format!("{}\n{more}", usage(command)))
+    let name = command.name;
+    let more = format!("`plus help {name}` says more");
+    let expected = format!("{}\n{more}", Entry::of(command).usage());
+    wrong_use(&format!("{name}: {what}"), expected)
 }
 
 fn wrong_use(what: &str, expected: String) -> Failure {
@@ -59,27 +132,9 @@ fn wrong_use(what: &str, expected: String) -> Failure {
     }
 }
 
-fn usage(command: &Command) -> String {
-    format!("usage: plus {}", call(command))
-}
-
-/// A command's name, its arguments, and its option if it has one.
-fn call(command: &Command) -> String {
-    let mut call = [&[command.name], command.arguments].concat().join(" ");
-    if let Some((option, word)) = command.option {
-        call += &format!(" [{option} {word}]");
-    }
-    call
-}
-
 fn overview() -> String {
-    let mut rows: Vec<(String, &str)> = COMMANDS.iter().map(|c| (call(c), c.about)).collect();
-    rows.push((
-        "help [COMMAND]".to_string(),
-        "this, or all about one command",
-    ));
-    let width = rows.iter().map(|(call, _)| call.len()).max().unwrap_or(0);
-    let row = |(call, about)| format!("\n  {call:<width$}   {about}");
-    let rows: String = rows.into_iter().map(row).collect();
+    let width = entries().map(|entry| entry.call.len()).max().unwrap_or(0);
+    let row = |Entry { call, about, .. }| format!("\n  {call:<width$}   {about}");
+    let rows: String = entries().map(row).collect();
     format!("usage: plus COMMAND ...\n{rows}")
 }

@@ -1,7 +1,7 @@
 //! The line of text for what a record gave, as the proved runner prints it.
 
 use crate::player::Outcome;
-use plus::{answer, kind, Length, Report};
+use plus::{kind, Answer, Length, Report};
 use std::fmt;
 
 /// The line for input that ends early.
@@ -10,12 +10,14 @@ pub const SHORT: &str = "short";
 impl fmt::Display for Outcome {
     fn fmt(&self, f: &mut fmt::Formatter) -> fmt::Result {
         match self {
-            Outcome::Answer(answer) => write!(f, "{answer}"),
-            Outcome::Byte(answer, byte) => write!(f, "{answer} {byte}"),
+            Outcome::Answer(answer) => write!(f, "{}", answer.number()),
+            Outcome::Byte(answer, byte) => write!(f, "{} {byte}", answer.number()),
             Outcome::Line(answer, report) => stepped(f, *answer, report),
-            Outcome::Drawn(answer::DONE, line) => drawn(f, &line[..]),
-            Outcome::Exported(answer::DONE, out) => exported(f, &out[..]),
-            Outcome::Drawn(answer, _) | Outcome::Exported(answer, _) => write!(f, "{answer}"),
+            Outcome::Drawn(Answer::Done, line) => drawn(f, &line[..]),
+            Outcome::Exported(Answer::Done, out) => exported(f, &out[..]),
+            Outcome::Drawn(answer, _) | Outcome::Exported(answer, _) => {
+                write!(f, "{}", answer.number())
+            }
             Outcome::Forecast(told) => forecast(f, told),
             Outcome::Bad => f.write_str("bad"),
         }
@@ -24,8 +26,8 @@ impl fmt::Display for Outcome {
 
 /// The answer, the cycles, and for each channel a dash or the kind and low 12
 /// bits of its word.
-fn stepped(f: &mut fmt::Formatter, answer: u8, report: &Report) -> fmt::Result {
-    write!(f, "{answer} {}", report.cycles)?;
+fn stepped(f: &mut fmt::Formatter, answer: Answer, report: &Report) -> fmt::Result {
+    write!(f, "{} {}", answer.number(), report.cycles)?;
     for (&kind, low) in report.kinds.iter().zip(report.lows) {
         match kind {
             kind::SAT_OUT => f.write_str(" -")?,
@@ -49,12 +51,12 @@ fn name_of(kind: u8) -> &'static str {
 fn drawn(f: &mut fmt::Formatter, line: &[u8]) -> fmt::Result {
     let character = |&entry: &u8| char::from_digit(entry.into(), 32).unwrap_or('?');
     let text: String = line.iter().map(character).collect();
-    write!(f, "{} {text}", answer::DONE)
+    write!(f, "{} {text}", Answer::Done.number())
 }
 
 /// The answer, and the bytes.
 fn exported(f: &mut fmt::Formatter, out: &[u8]) -> fmt::Result {
-    write!(f, "{} {}", answer::DONE, digits(out))
+    write!(f, "{} {}", Answer::Done.number(), digits(out))
 }
 
 /// Two hexadecimal digits a byte.
@@ -73,5 +75,6 @@ fn forecast(f: &mut fmt::Formatter, told: &Length) -> fmt::Result {
         length,
         ..
     } = told;
-    write!(f, "{answer} {lines} {cycles} {length} {most}")
+    let number = answer.number();
+    write!(f, "{number} {lines} {cycles} {length} {most}")
 }

@@ -2,7 +2,7 @@
 
 use crate::scene::Record;
 use plus::take::{Noted, Recorder};
-use plus::{answer, Access, Length, Report, EXPORT, LINE};
+use plus::{Access, Answer, Length, Report, EXPORT, LINE};
 
 /// A chip that notes every call that is served, and what is lent to it.
 pub struct Player {
@@ -14,15 +14,15 @@ pub struct Player {
 /// What a record's call gave.
 pub enum Outcome {
     /// An answer alone.
-    Answer(u8),
+    Answer(Answer),
     /// An answer, and the byte read or the vector.
-    Byte(u8, u8),
+    Byte(Answer, u8),
     /// A line step.
-    Line(u8, Report),
+    Line(Answer, Report),
     /// A drawn line.
-    Drawn(u8, Box<[u8; LINE]>),
+    Drawn(Answer, Box<[u8; LINE]>),
     /// An export.
-    Exported(u8, Box<[u8; EXPORT]>),
+    Exported(Answer, Box<[u8; EXPORT]>),
     /// A forecast.
     Forecast(Length),
     /// The letter names no call.
@@ -93,11 +93,11 @@ impl Player {
     /// A byte of RAM.
     fn poke(&mut self, address: u16, value: u8) -> Outcome {
         self.ram[usize::from(address)] = value;
-        Outcome::Answer(answer::DONE)
+        Outcome::Answer(Answer::Done)
     }
 
     fn reset(&mut self) -> Outcome {
         self.chip.reset();
-        Outcome::Answer(answer::DONE)
+        Outcome::Answer(Answer::Done)
     }
 }

@@ -1,11 +1,18 @@
-//! A scene file: RAM, the pixel store, then records of 4 bytes to the end.
+//! A scene file: RAM, the pixel store, then records of 4 bytes to the end; or a
+//! text that makes one.
 
+pub mod text;
+mod words;
+
+use crate::failure::Failure;
+use crate::files::Files;
 use crate::player::Player;
 use plus::{RAM, STORE};
 use std::fmt;
+use std::path::{Path, PathBuf};
 
 /// How many bytes a record has.
-const RECORD: usize = 4;
+pub const RECORD: usize = 4;
 
 /// A record: a letter for the call, an address and a byte.
 #[derive(Clone, Copy, Debug, PartialEq, Eq)]
@@ -13,6 +20,13 @@ pub struct Record {
     pub op: u8,
     pub address: u16,
     pub value: u8,
+}
+
+impl From<Record> for [u8; RECORD] {
+    fn from(record: Record) -> [u8; RECORD] {
+        let [low, high] = record.address.to_le_bytes();
+        [record.op, low, high, record.value]
+    }
 }
 
 /// The part of a scene in which a byte is missing. Records count from 1.
@@ -36,24 +50,52 @@ pub struct Records<'a> {
     taken: usize,
 }
 
-/// A chip after reset with the scene's RAM and store, and the scene's records.
-pub fn open(file: &[u8]) -> Result<(Player, Records<'_>), Short> {
-    let ends_in = |part| Short {
-        byte: file.len(),
-        part,
-    };
-    let (ram, rest) = file.split_at_checked(RAM).ok_or(ends_in(Part::Ram))?;
-    let (store, bytes) = rest.split_at_checked(STORE).ok_or(ends_in(Part::Store))?;
-    Ok((Player::new(ram, store), Records { bytes, taken: 0 }))
+/// A scene as it was read.
+pub struct Scene {
+    pub path: PathBuf,
+    bytes: Vec<u8>,
 }
 
-/// A scene after its last record.
-pub fn played(file: &[u8]) -> Result<Player, Short> {
-    let (mut player, records) = open(file)?;
-    for record in records {
-        player.play(record?);
+/// The scene of a file, or the one that its text makes.
+pub fn read(files: &mut Files, path: &Path) -> Result<Scene, Failure> {
+    let file = files.contents(path)?;
+    let bytes = match text::is_text(&file) {
+        true => text::made(files, path, &file)?,
+        false => file,
+    };
+    let path = path.to_owned();
+    Ok(Scene { path, bytes })
+}
+
+impl Scene {
+    /// A chip after reset with the scene's RAM and store, and the scene's records.
+    pub fn open(&self) -> Result<(Player, Records<'_>), Short> {
+        let ends_in = |part| Short {
+            byte: self.bytes.len(),
+            part,
+        };
+        let ram = self.bytes.split_at_checked(RAM);
+        let (ram, rest) = ram.ok_or(ends_in(Part::Ram))?;
+        let store = rest.split_at_checked(STORE);
+        let (store, bytes) = store.ok_or(ends_in(Part::Store))?;
+        Ok((Player::new(ram, store), Records { bytes, taken: 0 }))
     }
-    Ok(player)
+
+    /// After its last record.
+    pub fn played(&self) -> Result<Player, Failure> {
+        let early = |short: Short| self.faulty(vec![short.to_string()]);
+        let (mut player, records) = self.open().map_err(early)?;
+        for record in records {
+            player.play(record.map_err(early)?);
+        }
+        Ok(player)
+    }
+
+    /// That it has faults.
+    pub fn faulty(&self, faults: Vec<String>) -> Failure {
+        let path = self.path.clone();
+        Failure::Scene { path, faults }
+    }
 }
 
 impl Iterator for Records<'_> {

@@ -1,31 +1,29 @@
-//! `plus export FILE OUT`.
+//! `plus export FILE OUT [--asm]`.
 
-use super::{played, write, Command};
+use super::Command;
+use crate::asm;
+use crate::files::Files;
+use crate::given::Given;
 use crate::output::Output;
+use crate::scene;
 use crate::Done;
-use plus::EXPORT;
-use std::ffi::OsString;
-use std::path::Path;
+use plus::{Answer, EXPORT};
 
 pub const COMMAND: Command = Command {
     name: "export",
-    arguments: &["FILE", "OUT"],
-    option: None,
-    about: "what the registers hold at the end of a scene",
-    details: "\
-FILE is a scene, as `plus run` takes it. Plays all of its records, and writes
-what the registers then hold to OUT: 477 bytes, three for each register of the
-page outside the pixels but DCSR, by rising address. These are its address, low
-byte first, and its contents. Magnification is there once, at the sprite's +4.
-Prints how many registers there are.",
     run,
 };
 
-fn run(arguments: &[OsString], output: &mut Output) -> Done {
-    let (input, out) = (Path::new(&arguments[0]), Path::new(&arguments[1]));
+fn run(given: &Given, output: &mut Output) -> Done {
+    let mut files = Files::of(given);
+    let scene = scene::read(&mut files, given.path(0))?;
+    let out = files.place(given.path(1))?;
     let mut bytes = [0; EXPORT];
-    // Only another length is refused.
-    played(input)?.chip.export(&mut bytes);
-    write(out, bytes)?;
+    let answer = scene.played()?.chip.export(&mut bytes);
+    debug_assert_eq!(answer, Answer::Done);
+    match given.flag("--asm") {
+        true => out.write(asm::registers(&bytes))?,
+        false => out.write(bytes)?,
+    }
     output.line(format_args!("{} registers", EXPORT / 3))
 }

@@ -1,96 +1,102 @@
 //! `plus install PREFIX`.
 
-use super::{contents, Command};
+use super::Command;
 use crate::failure::Failure;
-use crate::help;
+use crate::given::Given;
+use crate::man;
 use crate::output::Output;
+use crate::replace::replace;
 use crate::Done;
-use std::env;
-use std::ffi::OsString;
-use std::fs::{self, Permissions};
-use std::os::unix::fs::PermissionsExt;
-use std::path::{self, Path, PathBuf};
+use std::os::unix::fs::symlink;
+use std::path::{self, Path};
+use std::{env, fs, process};
 
 pub const COMMAND: Command = Command {
     name: "install",
-    arguments: &["PREFIX"],
-    option: None,
-    about: "header, library, pkg-config file and this program",
-    details: "\
-Puts below the folder PREFIX, which it makes if need be:
-
-  include/plus.h           the calls in C
-  lib/libplus.a            the library
-  lib/pkgconfig/plus.pc    its flags, for pkg-config
-  bin/plus                 this program
-
-and prints their names. A C program then builds with the flags that
-`pkg-config --cflags --libs plus` gives, with PREFIX/lib/pkgconfig in
-PKG_CONFIG_PATH. Nothing that is installed needs the repository.",
     run,
 };
 
 const HEADER: &[u8] = include_bytes!(concat!(env!("CARGO_MANIFEST_DIR"), "/../../include/plus.h"));
 
-/// The library that this program is linked with.
+/// The library that this program is linked with, and the same as a shared one.
 const LIBRARY: &[u8] = include_bytes!(env!("PLUS_LIBRARY"));
+const SHARED: &[u8] = include_bytes!(env!("PLUS_SHARED"));
 
-fn run(arguments: &[OsString], output: &mut Output) -> Done {
-    let named = Path::new(&arguments[0]);
+/// Where the shared library is, and the name by which a linker finds it.
+const SHARED_NAME: &str = env!("PLUS_SHARED_NAME");
+const SHARED_LINK: &str = "libplus.so";
+
+/// What pkg-config is told. The files are found from where this one stands, so that
+/// all can be moved together. The static library is named, since a program that is
+/// linked with it runs wherever it is.
+const FLAGS: &str = concat!(
+    "\
+prefix=${pcfiledir}/../..
+includedir=${prefix}/include
+libdir=${prefix}/lib
+
+Name: plus
+Description: The proved core of the Amstrad Plus chip
+Version: ",
+    env!("CARGO_PKG_VERSION"),
+    "
+Cflags: -I${includedir}
+Libs: -L${libdir} -l:libplus.a
+"
+);
+
+fn run(given: &Given, output: &mut Output) -> Done {
+    let named = given.path(0);
     let prefix = path::absolute(named).map_err(Failure::file(named))?;
-    let flags = flags(&prefix).ok_or_else(|| {
-        help::wrong_for(
-            &COMMAND,
-            "PREFIX has a character that a .pc file can't have",
-        )
-    })?;
-    let program = env::current_exe().map_err(Failure::file(Path::new("plus")))?;
-    let files = [
+    if !is_fit(&prefix) {
+        return Err(given.wrong("PREFIX has a character that pkg-config can't handle"));
+    }
+    let program = env::current_exe().and_then(fs::read);
+    let program = program.map_err(Failure::file(Path::new("plus")))?;
+    let (shared, link) = (
+        format!("lib/{SHARED_NAME}"),
+        prefix.join("lib").join(SHARED_LINK),
+    );
+    let page = man::page();
+    for (name, contents, mode) in [
         ("include/plus.h", HEADER, 0o644),
         ("lib/libplus.a", LIBRARY, 0o644),
-        ("lib/pkgconfig/plus.pc", flags.as_bytes(), 0o644),
-        ("bin/plus", &contents(&program)?, 0o755),
-    ];
-    for (name, contents, mode) in files {
+        (&shared, SHARED, 0o755),
+        ("lib/pkgconfig/plus.pc", FLAGS.as_bytes(), 0o644),
+        ("share/man/man1/plus.1", page.as_bytes(), 0o644),
+        ("bin/plus", &program, 0o755),
+    ] {
         let path = prefix.join(name);
         put(&path, contents, mode)?;
         output.line(path.display())?;
+        if name == shared {
+            put_link(SHARED_NAME, &link).map_err(Failure::file(&link))?;
+            output.line(link.display())?;
+        }
     }
     Ok(())
 }
 
-/// What pkg-config is told.
-fn flags(prefix: &Path) -> Option<String> {
-    let prefix = prefix.to_str()?;
-    if prefix.contains(['"', '\\', '$', '#']) || prefix.contains(char::is_control) {
-        return None;
-    }
-    let version = env!("CARGO_PKG_VERSION");
-    Some(format!(
-        "\
-prefix={prefix}
-includedir=${{prefix}}/include
-libdir=${{prefix}}/lib
-
-Name: plus
-Description: The proved core of the Amstrad Plus chip
-Version: {version}
-Cflags: -I\"${{includedir}}\"
-Libs: -L\"${{libdir}}\" -lplus
-"
-    ))
+/// Whether pkg-config gives flags that a shell takes, with this in their names.
+fn is_fit(prefix: &Path) -> bool {
+    let unfit = |c: char| c.is_control() || ['"', '\\', '$', '#'].contains(&c);
+    prefix
+        .to_str()
+        .is_some_and(|prefix| !prefix.contains(unfit))
 }
 
-/// Writes a file beside its place and then moves it there, since the program
-/// that runs can't be written over.
+/// Writes a file, in a folder that is made if need be.
 fn put(path: &Path, contents: &[u8], mode: u32) -> Done {
     let folder = path.parent().unwrap_or(path);
     fs::create_dir_all(folder).map_err(Failure::file(folder))?;
-    let mut beside = path.as_os_str().to_owned();
-    beside.push(".new");
-    let beside = PathBuf::from(beside);
-    fs::write(&beside, contents)
-        .and_then(|()| fs::set_permissions(&beside, Permissions::from_mode(mode)))
-        .and_then(|()| fs::rename(&beside, path))
-        .map_err(Failure::file(path))
+    replace(path, contents, Some(mode)).map_err(Failure::file(path))
+}
+
+/// Makes a link, in the place of one that is there.
+fn put_link(to: &str, link: &Path) -> std::io::Result<()> {
+    let beside = link.with_extension(format!("{}.new", process::id()));
+    symlink(to, &beside)?;
+    fs::rename(&beside, link).inspect_err(|_| {
+        let _ = fs::remove_file(&beside);
+    })
 }

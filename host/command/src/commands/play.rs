@@ -1,81 +1,37 @@
 //! `plus play RAM STORE TAKE [AFTER]`.
 
-use super::{contents, write, Command};
+use super::Command;
 use crate::failure::Failure;
-use crate::help;
+use crate::files::Files;
+use crate::given::Given;
 use crate::lines::digits;
 use crate::output::Output;
 use crate::Done;
 use plus::take::{replay, Refused, Replayed};
-use plus::{answer, Channel, Chip, Counters, Registers, EXPORT, RAM, STORE};
-use std::ffi::OsString;
-use std::fs;
-use std::os::unix::fs::MetadataExt;
+use plus::{Answer, Channel, Chip, Counters, Registers, EXPORT, RAM, STORE};
 use std::path::Path;
 
-pub const COMMAND: Command = Command {
-    name: "play",
-    arguments: &["RAM", "STORE", "TAKE", "[AFTER]"],
-    option: None,
-    about: "the chip that such a file's calls lead to",
-    details: "\
-RAM is an image of 65,536 bytes, STORE a pixel store of 4,096, TAKE a take as
-`plus take` and `plus run` write it. Plays it from reset: before each record
-lines are stepped until there are as many as it says, with the processor off
-the 8255, and then its call is made. One that the chip refuses is counted and
-passed over. Writes the pixel store after the last record to AFTER, if that is
-given, and prints
+pub const COMMAND: Command = Command { name: "play", run };
 
-  lines N            the lines stepped
-  counted NUMBER N   a refusal's number and how often it came, rising
-  psg                the 16 PSG registers
-  channel N          each sound channel, 0 to 2
-  crtc               the 6845's selected register and those that are kept
-  line               where the picture is, and a captured split address
-  interrupts         the raster's
-  gate               mode, page and lock
-  undo N             the page writes that can be undone
-  export             what the registers hold, as `plus export` writes it
-
-PSG registers, addresses, marks and splits are hexadecimal digits of upper
-case, the export's are of lower case, and all other numbers are decimal. No
-input is changed: an AFTER that is one of them is wrong use. Refused are RAM or
-STORE of another length (1), and then what `plus records` refuses.",
-    run,
-};
-
-fn run(arguments: &[OsString], output: &mut Output) -> Done {
-    let paths: Vec<&Path> = arguments.iter().map(Path::new).collect();
-    let (inputs, after) = paths.split_at(3);
-    if after.iter().any(|after| is_one_of(after, inputs)) {
-        let what = format!("'{}' is an input", after[0].display());
-        return Err(help::wrong_for(&COMMAND, &what));
-    }
-    let (ram, take) = (contents(inputs[0])?, contents(inputs[2])?);
-    let mut store = contents(inputs[1])?;
+fn run(given: &Given, output: &mut Output) -> Done {
+    let paths = [given.path(0), given.path(1), given.path(2)];
+    let mut files = Files::of(given);
+    let (ram, mut store) = (files.contents(paths[0])?, files.contents(paths[1])?);
+    let take = files.contents(paths[2])?;
+    let after = given.argument(3).map(|path| files.place(Path::new(path)));
+    let after = after.transpose()?;
     let played = replay(&ram, &mut store, &take)
         .served()
-        .map_err(|refused| failure(refused, ram.len(), inputs))?;
-    if let [after] = after {
-        write(after, &store)?;
+        .map_err(|refused| failure(refused, ram.len(), &paths))?;
+    if let Some(after) = after {
+        after.write(&store)?;
     }
     print(&played, output)
 }
 
-/// Whether a file that is there is one of these.
-fn is_one_of(path: &Path, inputs: &[&Path]) -> bool {
-    let file = |path: &Path| fs::metadata(path).map(|data| (data.dev(), data.ino()));
-    let Ok(named) = file(path) else {
-        return false;
-    };
-    inputs
-        .iter()
-        .any(|input| file(input).is_ok_and(|input| input == named))
-}
-
 /// A refusal, with the file that it is about.
 fn failure(refused: Refused, ram: usize, inputs: &[&Path]) -> Failure {
-    if refused.answer != answer::WRONG_LENGTH {
+    if refused.answer != Answer::WrongLength {
         return Failure::refused_take(refused, inputs[2]);
     }
     let meaning = match ram {
@@ -121,8 +77,8 @@ fn print_rest(chip: &Chip, output: &mut Output) -> Done {
     ))?;
     output.line(format_args!("undo {}", chip.record().count()))?;
     let mut out = [0; EXPORT];
-    // Only another length is refused.
-    chip.export(&mut out);
+    let answer = chip.export(&mut out);
+    debug_assert_eq!(answer, Answer::Done);
     output.line(format_args!("export {}", digits(&out)))
 }
 

@@ -1,45 +1,33 @@
 //! `plus read TEXT OUT`.
 
-use super::{contents, write, Command};
+use super::Command;
 use crate::failure::Failure;
+use crate::files::Files;
+use crate::given::Given;
+use crate::hint::hint;
 use crate::output::Output;
 use crate::Done;
-use plus::answer;
 use plus::listing::{words_of, BadLine};
-use std::ffi::OsString;
+use plus::Answer;
 use std::path::Path;
 
-pub const COMMAND: Command = Command {
-    name: "read",
-    arguments: &["TEXT", "OUT"],
-    option: None,
-    about: "the words of such a text, put into a file",
-    details: "\
-TEXT is a sound list as `plus list` prints it. Writes its words to OUT, two
-bytes each, low byte first, and prints
+pub const COMMAND: Command = Command { name: "read", run };
 
-  words N
-
-for the number of words. Only text that `plus list` can print is read: upper
-case, one blank between, no zero before a number, one LF after every line.
-Any other is refused (7), with its first bad line's number, from 1:
-
-  refused 7 line N",
-    run,
-};
-
-fn run(arguments: &[OsString], output: &mut Output) -> Done {
-    let (text, out) = (Path::new(&arguments[0]), Path::new(&arguments[1]));
-    let words = words_of(&contents(text)?).map_err(|bad| refused(bad, text))?;
+fn run(given: &Given, output: &mut Output) -> Done {
+    let mut files = Files::of(given);
+    let text = files.contents(given.path(0))?;
+    let out = files.place(given.path(1))?;
+    let words = words_of(&text).map_err(|bad| refused(bad, &text, given.path(0)))?;
     let bytes: Vec<u8> = words.iter().flat_map(|word| word.to_le_bytes()).collect();
-    write(out, bytes)?;
+    out.write(bytes)?;
     output.line(format_args!("words {}", words.len()))
 }
 
-fn refused(BadLine(line): BadLine, text: &Path) -> Failure {
+fn refused(BadLine(line): BadLine, text: &[u8], path: &Path) -> Failure {
+    let (path, hint) = (path.display(), hint(text, line));
     Failure::Refused {
-        number: answer::NOT_LISTING,
+        answer: Answer::NotListing,
         place: Some(("line", line)),
-        meaning: format!("that line of {} is no word's", text.display()),
+        meaning: format!("that line of {path} is no word's: {hint}"),
     }
 }

@@ -1,54 +1,33 @@
 //! `plus take RECORDS OUT [COMMENT]`.
 
-use super::{contents, write, Command};
+use super::Command;
 use crate::failure::Failure;
-use crate::help;
+use crate::files::Files;
+use crate::given::Given;
 use crate::output::Output;
 use crate::Done;
 use plus::take::{file_of, Record};
-use std::ffi::OsString;
 use std::path::Path;
 use std::str::{self, FromStr};
 
-pub const COMMAND: Command = Command {
-    name: "take",
-    arguments: &["RECORDS", "OUT", "[COMMENT]"],
-    option: None,
-    about: "a take: calls with their lines, put into a file",
-    details: "\
-RECORDS is text, a record a line: line number, kind, address and value, in
-decimal with one blank between, no zero before a number, and one LF after every
-line. The line number is how many line steps come before the call, the kind
+pub const COMMAND: Command = Command { name: "take", run };
 
-  1 2 3  value to BCxx, the 6845's data port, 7Fxx; the address is 0
-  4      value to the page at the address
-  5 6    an acknowledge, an undo; address and value are 0
-
-Writes them to OUT: first the bytes of the file COMMENT, or none if it is left
-out, then the records, then the trailer. Prints nothing. A line of another form
-is wrong use, and so is a number that a record has no room for: above
-4294967295, 255, 65535, 255. Refused is a bad record (13), with the first one's
-number, from 1:
-
-  refused 13 record N
-
-A record is bad if its kind is none of these, if its address or its value is
-not 0 where it should be, or if its line number is below the one before it.",
-    run,
-};
-
-fn run(arguments: &[OsString], _: &mut Output) -> Done {
-    let (text, out) = (Path::new(&arguments[0]), Path::new(&arguments[1]));
-    let records = records_of(&contents(text)?).map_err(|line| wrong(line, text))?;
-    let comment = match arguments.get(2) {
-        Some(path) => contents(Path::new(path))?,
+fn run(given: &Given, _: &mut Output) -> Done {
+    let (text, out) = (given.path(0), given.path(1));
+    let mut files = Files::of(given);
+    let records = files.contents(text)?;
+    let comment = match given.argument(2) {
+        Some(path) => files.contents(Path::new(path))?,
         None => vec![],
     };
+    let place = files.place(out)?;
+    let records = records_of(&records)
+        .map_err(|line| given.wrong(format!("line {line} of '{}' is no record", text.display())))?;
     let file = file_of(&comment, &records).map_err(|refused| {
         let named = if refused.record == 0 { out } else { text };
         Failure::refused_take(refused, named)
     })?;
-    write(out, file)
+    place.write(file)
 }
 
 /// The records of a text, or the number of its first line that is none.
@@ -80,9 +59,4 @@ fn number<N: FromStr>(digits: &str) -> Option<N> {
         return None;
     }
     digits.parse().ok()
-}
-
-fn wrong(line: usize, text: &Path) -> Failure {
-    let what = format!("line {line} of '{}' is no record", text.display());
-    help::wrong_for(&COMMAND, &what)
 }

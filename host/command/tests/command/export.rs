@@ -28,6 +28,27 @@ fn what_the_registers_hold() {
     assert_eq!(fs::read(&out).unwrap(), exported(&held));
 }
 
+/// What an assembler takes: a line for each three bytes.
+#[test]
+fn for_an_assembler() {
+    let folder = Folder::new();
+    let file = folder.file("undone.scene", &scene().bytes());
+    let out = folder.file("undone.asm", &[0xEE; 10_000]);
+    plus(["export", &file, &out, "--asm"]).prints("159 registers\n");
+    let text = fs::read_to_string(&out).unwrap();
+    let held = [(0x6019, 3), (0x6800, 0x64), (0x6805, 1), (0x6C06, 3)];
+    let line = |three: &[u8]| {
+        format!(
+            "defb #{:02X} ; {:02X}{:02X}\n",
+            three[2], three[1], three[0]
+        )
+    };
+    let expected: String = exported(&held).chunks(3).map(line).collect();
+    assert_eq!(text, expected);
+    assert!(text.starts_with("defb #00 ; 6000\n"));
+    assert!(text.contains("defb #64 ; 6800\n"));
+}
+
 /// A file that is there is written over.
 #[test]
 fn the_same_as_the_runs_letter() {

@@ -18,7 +18,9 @@ fn image(start: usize, words: &[u16]) -> Vec<u8> {
 
 /// What wrong use is told.
 fn wrong(what: &str) -> String {
-    format!("plus: list: {what}\nusage: plus list FILE [START]\n`plus help list` says more\n")
+    format!(
+        "plus: list: {what}\nusage: plus list FILE [START] [--asm]\n`plus help list` says more\n"
+    )
 }
 
 #[test]
@@ -74,6 +76,33 @@ fn a_file_of_words_is_printed_whole() {
         let file = folder.file("near", &vec![0; length]);
         plus(["list", &file]).prints(&"LOAD 0 00\n".repeat(length / 2));
     }
+}
+
+/// What an assembler takes: the same words, each with its text behind it.
+#[test]
+fn for_an_assembler() {
+    let folder = Folder::new();
+    let words = [0x0738, 0x1002, 0x3ABC, 0x4031, 0x00FF];
+    let text = "\
+defw #0738 ; LOAD 7 38
+defw #1002 ; PAUSE 2
+defw #3ABC ; WORD 3ABC
+defw #4031 ; LOOP+INT+STOP
+";
+    let file = folder.file("at_8000.list", &image(0x8000, &words));
+    for words in [
+        &["list", &file, "--asm"][..],
+        &["list", "--asm", &file],
+        &["list", &file, "8000", "--asm"],
+        &["list", &file, "--asm", "8000"],
+    ] {
+        plus(words).prints(text);
+    }
+    let file = folder.file("words", &bytes(&words));
+    let last = "defw #00FF ; LOAD 0 FF\n";
+    plus(["list", &file, "--asm"]).prints(&format!("{text}{last}"));
+    let empty = folder.file("empty", &[]);
+    plus(["list", &empty, "--asm"]).prints("");
 }
 
 #[test]

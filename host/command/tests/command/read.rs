@@ -65,13 +65,71 @@ fn a_text_of_another_form_is_refused_and_no_file_touched() {
         (b"STOP\nSTOP\n\0", 3),
     ] {
         let text = folder.file("bad.txt", contents);
-        let said = format!("refused 7 line {line}: that line of {text} is no word's\n");
+        let said = format!("refused 7 line {line}: that line of {text} is no word's: ");
         for out in [&new, &old] {
-            plus(["read", &text, out]).fails(1, &said);
+            let ran = plus(["read", &text, out]);
+            assert_eq!((ran.status, &*ran.out), (Some(1), ""));
+            assert!(ran.err.starts_with(&said), "{}", ran.err);
         }
     }
     assert!(!Path::new(&new).exists());
     assert_eq!(fs::read(&old).unwrap(), b"words");
+}
+
+/// What the bad line has is said behind its number.
+#[test]
+fn why_a_line_is_refused() {
+    let folder = Folder::new();
+    for (line, why) in [
+        (&b"STOP\r\n"[..], "it has a CR before its LF"),
+        (b"\xEF\xBB\xBFSTOP\n", "it begins with a byte order mark"),
+        (b"stop\n", "it has lower case"),
+        (b"LOAD 7 3f\n", "it has lower case"),
+        (b"LOAD  7 38\n", "it has a blank too many"),
+        (b" STOP\n", "it has a blank too many"),
+        (b"STOP \n", "it has a blank too many"),
+        (b"LOOP + STOP\n", "it has a blank too many"),
+        (b"PAUSE\t2\n", "it has a blank too many"),
+        (b"LOAD 07 38\n", "it has a zero before a number"),
+        (b"PAUSE 00\n", "it has a zero before a number"),
+        (b"REPEAT 003\n", "it has a zero before a number"),
+        (b"STOP", "it has no LF at its end"),
+        (b"WORD 4020\n", "its word has a name, STOP"),
+        (b"WORD 0738\n", "its word has a name, LOAD 7 38"),
+        (b"WORD 1000\n", "its word has a name, PAUSE 0"),
+        // Several at once.
+        (
+            b"\xEF\xBB\xBFload  07 3f\r",
+            "it begins with a byte order mark, it has no LF at its end, it has a CR before \
+             its LF, it has a blank too many, it has lower case, it has a zero before a number",
+        ),
+        // What no mending of these makes a word's line.
+        (b"\n", "it is empty"),
+        (b" ", "it is empty"),
+        (
+            b"LOAD 16 00\n",
+            "LOAD has a register from 0 to 15 and two hexadecimal digits",
+        ),
+        (b"pause 4096\n", "PAUSE has a number from 0 to 4095"),
+        (b"REPEAT\n", "REPEAT has a number from 0 to 4095"),
+        (b"WORD 3AB\n", "WORD has four hexadecimal digits"),
+        (
+            b"STOP+LOOP\n",
+            "LOOP, INT and STOP are joined by + in this order, and NOP stands alone",
+        ),
+        (
+            b"REST 5\n",
+            "it begins with none of LOAD, PAUSE, REPEAT, LOOP, INT, STOP, NOP and WORD",
+        ),
+    ] {
+        for (before, number) in [(&b""[..], 1), (b"LOAD 7 38\nSTOP\n", 3)] {
+            let text = folder.file("bad.txt", &[before, line].concat());
+            let out = folder.place("out");
+            let said =
+                format!("refused 7 line {number}: that line of {text} is no word's: {why}\n");
+            plus(["read", &text, &out]).fails(1, &said);
+        }
+    }
 }
 
 #[test]

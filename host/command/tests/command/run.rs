@@ -15,11 +15,15 @@ fn stored(name: &str) -> (Vec<u8>, String) {
 
 #[test]
 fn prints_what_the_proved_runner_prints() {
-    for name in ["tests/runner/bad.", "tests/runner/mixed."] {
-        let (_, expected) = stored(name);
-        let input = repository(&format!("{name}in"));
-        plus(["run".as_ref(), input.as_os_str()]).prints(&expected);
-    }
+    let (_, expected) = stored("tests/runner/mixed.");
+    let input = repository("tests/runner/mixed.in");
+    plus(["run".as_ref(), input.as_os_str()]).prints(&expected);
+    // One with unknown letters, which are told after all is printed.
+    let (_, expected) = stored("tests/runner/bad.");
+    let input = repository("tests/runner/bad.in");
+    let ran = plus(["run".as_ref(), input.as_os_str()]);
+    assert_eq!((ran.status, ran.out), (Some(1), expected));
+    assert_eq!(ran.err.lines().count(), 1, "{}", ran.err);
     // The runner's own stored run has every letter in it, and ends early.
     let (input, expected) = stored("crates/plus_run/std");
     let path = repository("crates/plus_run/stdin");
@@ -84,7 +88,30 @@ fn each_letter() {
     ];
     let folder = Folder::new();
     let file = folder.file("each.scene", &scene.bytes());
-    plus(["run", &file]).prints(&(lines.concat().join("\n") + "\n"));
+    let ran = plus(["run", &file]);
+    assert_eq!(ran.out, lines.concat().join("\n") + "\n");
+    let said = format!("{file}: record number 40 has the unknown letter 'x'\n");
+    assert_eq!((ran.status, ran.err), (Some(1), said));
+}
+
+/// All is printed, and the first is told, by what it is; beside it that the scene
+/// ends early.
+#[test]
+fn unknown_letters() {
+    let folder = Folder::new();
+    let scene = Scene::new().each('B', &[1, 2]).each('\0', &[0]);
+    let mut bytes = scene.each('b', &[0]).each('B', &[3]).bytes();
+    let file = folder.file("bad.scene", &bytes);
+    let ran = plus(["run", &file]);
+    let unknown = format!("{file}: record number 3 has the unknown letter '\\x00'\n");
+    assert_eq!((ran.status, &*ran.err), (Some(1), &*unknown));
+    assert_eq!(ran.out, "0\n0\nbad\nbad\n0\n");
+    bytes.pop();
+    let file = folder.file("bad.scene", &bytes);
+    let ran = plus(["run", &file]);
+    let early = format!("{file}: the scene ends early, at byte 69651, in record number 5\n");
+    assert_eq!((ran.status, ran.err), (Some(1), unknown + &early));
+    assert_eq!(ran.out, "0\n0\nbad\nbad\nshort\n");
 }
 
 #[test]
@@ -175,7 +202,6 @@ fn recorded() -> (Scene, Vec<[u16; 4]>) {
         .record('A', 0x1234, 9)
         .record('F', 0, 0)
         .record('E', 0, 0)
-        .record('x', 0, 0)
         .record('W', 0x4000, 0xFF)
         .record('U', 0x1234, 9)
         .record('U', 0, 0)

@@ -5,33 +5,36 @@ use std::ffi::OsStr;
 use std::os::unix::ffi::OsStrExt;
 
 /// Each command with its arguments, and its option last if it has one.
-const COMMANDS: [(&str, &[&str]); 10] = [
-    ("forecast", &["FILE"]),
-    ("list", &["FILE", "[START]"]),
+const COMMANDS: [(&str, &[&str]); 11] = [
+    ("forecast", &["FILE", "[START]", "[PRESCALE]"]),
+    ("list", &["FILE", "[START]", "[--asm]"]),
     ("read", &["TEXT", "OUT"]),
+    ("scene", &["TEXT", "OUT"]),
     ("run", &["FILE", "[--take OUT]"]),
     ("take", &["RECORDS", "OUT", "[COMMENT]"]),
     ("records", &["TAKE"]),
     ("play", &["RAM", "STORE", "TAKE", "[AFTER]"]),
     ("frame", &["FILE", "OUT.png"]),
-    ("export", &["FILE", "OUT"]),
+    ("export", &["FILE", "OUT", "[--asm]"]),
     ("install", &["PREFIX"]),
 ];
 
 const OVERVIEW: &str = "\
 usage: plus COMMAND ...
 
-  forecast FILE                 how long the sound list of a RAM image plays
-  list FILE [START]             a sound list as text, a line a word
-  read TEXT OUT                 the words of such a text, put into a file
-  run FILE [--take OUT]         what each record of a scene answers
-  take RECORDS OUT [COMMENT]    a take: calls with their lines, put into a file
-  records TAKE                  the records of such a file
-  play RAM STORE TAKE [AFTER]   the chip that such a file's calls lead to
-  frame FILE OUT.png            a picture of the frame that a scene leads to
-  export FILE OUT               what the registers hold at the end of a scene
-  install PREFIX                header, library, pkg-config file and this program
-  help [COMMAND]                this, or all about one command
+  forecast FILE [START] [PRESCALE]   how long a sound list plays
+  list FILE [START] [--asm]          a sound list as text, a line a word
+  read TEXT OUT                      the words of such a text, into a file
+  scene TEXT OUT                     a scene, made from text
+  run FILE [--take OUT]              what each record of a scene answers
+  take RECORDS OUT [COMMENT]         a take, that is calls with their lines
+  records TAKE                       the records of a take
+  play RAM STORE TAKE [AFTER]        the chip that a take leads to
+  frame FILE OUT.png                 a picture of the frame after a scene
+  export FILE OUT [--asm]            what the registers hold after a scene
+  install PREFIX                     header, libraries, manual, this program
+  help [COMMAND]                     this, or all about one command
+  --version                          the version
 ";
 
 fn usage(command: &str, arguments: &[&str]) -> String {
@@ -44,6 +47,7 @@ fn help_on_all() {
         let ran = plus(words);
         assert_eq!((ran.status, &*ran.err), (Some(0), ""));
         assert!(ran.out.starts_with(&format!("{OVERVIEW}\nExit status: ")));
+        assert!(ran.out.lines().all(|line| line.len() <= 80), "{}", ran.out);
     }
 }
 
@@ -76,8 +80,8 @@ fn an_unknown_command() {
         let said = format!("plus: there is no command 'forcast'\n{OVERVIEW}");
         plus(words).fails(2, &said);
     }
-    let said = format!("plus: there is no command '--version'\n{OVERVIEW}");
-    plus(["--version"]).fails(2, &said);
+    let said = format!("plus: there is no command '--verbose'\n{OVERVIEW}");
+    plus(["--verbose"]).fails(2, &said);
 }
 
 #[test]
@@ -92,7 +96,7 @@ fn missing_and_extra_arguments() {
         };
         for (given, argument) in arguments.iter().enumerate() {
             if !argument.starts_with('[') {
-                fails(&["x"; 3][..given], &format!("{argument} is missing"));
+                fails(&["x"; 4][..given], &format!("{argument} is missing"));
             }
         }
         let option = |argument: &&&str| argument.starts_with("[--");
