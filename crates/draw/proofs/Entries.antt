@@ -1,21 +1,24 @@
 -- A line's entries, one after the other.
 use mathlib.Core.Path.{_≡_, refl, _∙_}
 use mathlib.Core.List.{List}
-use Prim.Native.Nat.{ℕ, _+_, _-_, _%_, _<_, _≤_}
+use Prim.Native.Nat.{ℕ, _+_, _-_, _<_, _≤_}
 use borrow.Author.Count.{below-more}
 use borrow.Author.Tests.{ne-eqb, lt-ltb, le-ltb, le-leb, lt-leb}
 use native.Mathlib.Omega.{arith}
 use lib.ListN.{length, getD, set}
 use lib.Seq.{getD-set-same, getD-set-other}
 use Rattle.common.proofs.Order.{either-side}
-use Rattle.overlay.specs.Overlay.{divided, firstOn, Kept}
-use Rattle.overlay.specs.Stretches.{coverPixel, firstCover, Ready, Stretched}
+use Rattle.screen.specs.MainLine.{LinePens}
+use Rattle.overlay.specs.Overlay.{firstOn, pixelOn, Kept}
+use Rattle.overlay.specs.Stretches.{sprite, coverPixel, firstCover, Ready, Starts, Rights, Joined}
 use Rattle.overlay.specs.declared.LineSprite.{LineSprite}
 use Rattle.overlay.specs.declared.LineSprites.{LineSprites}
 use Rattle.overlay.specs.declared.Stretch.{Stretch}
 use Rattle.overlay.proofs.Search.{search-more, search-found}
+use Rattle.overlay.proofs.Covers.{covers-show}
 use Rattle.draw.specs.declared.Edges.{Edges}
-use Rattle.draw.specs.Mixing.{mainAt, overAt, coveredAt, mixedAt, Has, Changed}
+use Rattle.draw.specs.declared.Main.{Main}
+use Rattle.draw.specs.Mixing.{penAcross, mainAt, overAt, coveredAt, mixedAt, Has, Changed}
 
 pub has-none : (f : ℕ → ℕ) (l : List ℕ) → Has f 0 l
 has-none f l = record { entry = λ p h. absurd (omega arith) }
@@ -77,64 +80,66 @@ pub changed-same :
 changed-same c same =
     record { inside = λ x g h. c .inside x g h ∙ same x _ g h; below = c .below; beyond = c .beyond }
 
--- the search at a distance from the stretch's start, among those that cover it: number k's pixel has this place in the store
-module _ (store bases scales : List ℕ) (from d k : ℕ) {place : ℕ} (at : place ≡ divided (getD bases k 0 + d) (getD scales k 0))
-    (none : firstCover store bases scales d k ≡ 0) where
-  abbrev pixel : ℕ
-  pixel = getD store place 0 % 16
+-- the search at a position, among those that cover it: number k has this pixel there
+module _ (store : List ℕ) (list : List LineSprite) (covers : List ℕ) (x k : ℕ) {pixel : ℕ}
+    (its : pixel ≡ pixelOn store (sprite list (getD covers k 0)) x) (none : firstCover store list covers x k ≡ 0) where
+  pub search-on : pixel ≡ 0 → firstCover store list covers x (k + 1) ≡ 0
+  unfolding firstCover coverPixel
+  search-on transparent = search-more (coverPixel store list covers x) k none its transparent
 
-  its : pixel ≡ coverPixel store bases scales d k
-  unfolding coverPixel
-  its = rw at
-
-  pub search-on : pixel ≡ 0 → firstCover store bases scales d (k + 1) ≡ 0
-  unfolding firstCover
-  search-on transparent = search-more (coverPixel store bases scales d) k none its transparent
-
-  pub sprite-entry : (count v : ℕ) → k < count → (pixel ≡ 0 → ⊥) → 16 + pixel ≡ coveredAt store bases scales count from (from + d) v
-  unfolding firstCover coveredAt
+  pub sprite-entry : (count v : ℕ) → k < count → (pixel ≡ 0 → ⊥) → 16 + pixel ≡ coveredAt store list covers count x v
+  unfolding firstCover coverPixel coveredAt
   sprite-entry count v h opaque =
-      let same : from + d - from ≡ d = omega arith in
-      rw (same, search-found (coverPixel store bases scales d) k none its count h opaque, ne-eqb pixel 0 opaque)
+      rw (search-found (coverPixel store list covers x) k none its count h opaque, ne-eqb pixel 0 opaque)
+
+pub no-cover : (store : List ℕ) (list : List LineSprite) (covers : List ℕ) (x : ℕ) → firstCover store list covers x 0 ≡ 0
+unfolding firstCover
+no-cover store list covers x = refl
 
 pub no-entry :
-    (store bases scales : List ℕ) (count from d v : ℕ) → firstCover store bases scales d count ≡ 0 →
-    v ≡ coveredAt store bases scales count from (from + d) v
+    (store : List ℕ) (list : List LineSprite) (covers : List ℕ) (count x v : ℕ) → firstCover store list covers x count ≡ 0 →
+    v ≡ coveredAt store list covers count x v
 unfolding coveredAt
-no-entry store bases scales count from d v none = let at : from + d - from ≡ d = omega arith in rw (at, none)
+no-entry store list covers count x v none = rw none
 
--- at the start none has ended
-pub ready-none : {shown : LineSprites} {x : ℕ} → Kept shown → Ready (shown .list) 0 (shown .count) x
-ready-none kept = record { order = omega arith; bound = kept .bound; sized = kept .sized; gone = λ k h. absurd (omega arith) }
+-- with none that covers it nothing is laid on a stretch
+pub none-covers :
+    (store : List ℕ) (list : List LineSprite) (covers : List ℕ) {before : List ℕ} {count from to : ℕ} → count ≡ 0 →
+    Changed (coveredAt store list covers count) from to before before
+unfolding coveredAt firstCover
+none-covers store list covers none = record { inside = λ x g h. rw none; below = λ x h. refl; beyond = λ x h. refl }
 
--- from one stretch to the next: what has ended has ended further on too
-pub ready-on :
-    {list : List LineSprite} {first count from to : ℕ} {bases scales : List ℕ} {s : Stretch} → Ready list first count from →
-    Stretched list count from to bases scales s → from ≤ s .until → Ready list (s .first) count (s .until)
-ready-on ready stretched h =
-    record {
-      order = stretched .order;
-      bound = ready .bound;
-      sized = ready .sized;
-      gone = λ k g. record { none = λ store p f. stretched .gone k g .none store p (omega arith) };
-    }
+-- those that are kept are ready
+pub ready : {shown : LineSprites} → Kept shown → Ready (shown .list) (shown .count)
+ready kept = record { bound = kept .bound; sized = kept .sized }
 
 -- those that cover a stretch show what the sprites on the line do
 pub stretch-same :
-    (store : List ℕ) {list : List LineSprite} {count from to : ℕ} {bases scales : List ℕ} {s : Stretch} →
-    Stretched list count from to bases scales s → (x v : ℕ) → from ≤ x → x < s .until →
-    coveredAt store bases scales (s .count) from x v ≡ overAt store list count x v
+    (store : List ℕ) {list : List LineSprite} {rights order covers : List ℕ} {total from end : ℕ} {s : Stretch} → Ready list total →
+    Starts list total order → Rights list total rights → Joined rights order total from end covers s → (x v : ℕ) → from ≤ x → x < s .until →
+    coveredAt store list covers (s .count) x v ≡ overAt store list total x v
 unfolding coveredAt overAt
-stretch-same store stretched x v past near = rw (stretched .shows store x past near)
+stretch-same store ready starts rights joined x v past near = rw (covers-show starts ready rights joined store x past near)
 
 -- with no sprite at all nothing is laid
 pub none-laid : (store : List ℕ) (list : List LineSprite) {before : List ℕ} {count from to : ℕ} → count ≡ 0 → Changed (overAt store list count) from to before before
 unfolding overAt firstOn
 none-laid store list none = record { inside = λ x g h. rw none; below = λ x h. refl; beyond = λ x h. refl }
 
--- border, then the pens over it, then the sprites over those
-module _ (pens : List ℕ) (shown : LineSprites) (store : List ℕ) (edges : Edges) where
-  pub border-mixed : {l : List ℕ} → edges .right ≤ edges .left → Has (λ x. 16) 640 l → Has (mixedAt pens shown store edges) 640 l
+-- a line's pens give the main pen: its lead of 16 shows left of the scroll
+pub pens-main :
+    {ram pens : List ℕ} (m : Main) → LinePens ram (m .mode) (m .address) (m .row) pens → m .scroll ≤ 16 → (x : ℕ) → x < 640 →
+    penAcross pens (m .scroll) x ≡ mainAt ram m x
+unfolding mainAt
+pens-main m line low x h =
+    either-side x (m .scroll) (λ less. rw (lt-ltb x (m .scroll) less) (line .lead (x + 16 - m .scroll) (omega arith)))
+    (λ more.
+    let e : x + 16 - m .scroll ≡ 16 + (x - m .scroll) = omega arith in
+    rw (le-ltb x (m .scroll) more, e) (line .pen (x - m .scroll) (omega arith)))
+
+-- border, then the main screen over it, then the sprites over those
+module _ (ram : List ℕ) (main : Main) (shown : LineSprites) (store : List ℕ) (edges : Edges) where
+  pub border-mixed : {l : List ℕ} → edges .right ≤ edges .left → Has (λ x. 16) 640 l → Has (mixedAt ram main shown store edges) 640 l
   unfolding mixedAt
   border-mixed empty border =
       record {
@@ -146,8 +151,8 @@ module _ (pens : List ℕ) (shown : LineSprites) (store : List ℕ) (edges : Edg
       }
 
   pub all-mixed :
-      {l m n : List ℕ} → Has (λ x. 16) 640 l → Changed (λ x v. mainAt pens (edges .scroll) x) (edges .left) (edges .right) l m →
-      Changed (overAt store (shown .list) (shown .count)) (edges .left) (edges .right) m n → Has (mixedAt pens shown store edges) 640 n
+      {l m n : List ℕ} → Has (λ x. 16) 640 l → Changed (λ x v. mainAt ram main x) (edges .left) (edges .right) l m →
+      Changed (overAt store (shown .list) (shown .count)) (edges .left) (edges .right) m n → Has (mixedAt ram main shown store edges) 640 n
   unfolding mixedAt
   all-mixed border laid over =
       record {

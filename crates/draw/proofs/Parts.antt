@@ -2,21 +2,21 @@
 use mathlib.Core.Path.{_≡_, refl, sym, _∙_}
 use mathlib.Core.Bool.{Bool, true, false}
 use mathlib.Core.List.{List}
-use Prim.Native.Nat.{ℕ, _+_, _-_, _*_, _/_, _%_, _<_, _≤_}
+use Prim.Native.Nat.{ℕ, _+_, _*_, _/_, _%_, _<_, _≤_}
 use native.Mathlib.Omega.{arith}
 use native.Mathlib.Nat.{mul-le-mul}
-use borrow.Author.Tests.{lt-ltb, le-ltb, le-leb, lt-leb}
+use borrow.Author.Tests.{le-ltb, le-leb, lt-leb}
 use lib.Dec.{leb, ltb}
 use lib.ListN.{length}
 use Rattle.common.specs.Choice.{if, both, either, bit}
 use Rattle.crtc.specs.Line.{scrollLines}
 use Rattle.picture.specs.Screen.{rowLine}
-use Rattle.screen.specs.MainLine.{LinePens}
 use Rattle.overlay.specs.Overlay.{Overlay}
 use Rattle.overlay.specs.declared.LineSprites.{LineSprites}
 use Rattle.common.proofs.Order.{either-side}
 use Rattle.chip.specs.declared.Chip.{Chip}
 use Rattle.draw.specs.declared.Edges.{Edges}
+use Rattle.draw.specs.declared.Main.{Main}
 use Rattle.draw.specs.Drawing.{drawAnswer, allBorder, isBorder, frameLine, mainPen, screenPen, entryAt, Draws}
 use Rattle.draw.specs.Mixing.{leftOf, rightOf, outside, mainAt, overAt, mixedAt, Has}
 
@@ -70,29 +70,25 @@ module _ (c : Chip) where
       record {
         left = leftOf (c .video .sscr);
         right = rightOf (c .crtc .registers) (c .crtc .counters);
+      }
+
+  abbrev mainOf : Main
+  mainOf =
+      record {
+        mode = c .gate .mode;
+        address = c .crtc .counters .address;
+        row = rowLine (c .crtc .counters .rc) (scrollLines (c .video .sscr));
         scroll = c .video .sscr % 16;
       }
 
-  module _ (ram store pens : List ℕ) (shown : LineSprites)
-      (main : LinePens ram (c .gate .mode) (c .crtc .counters .address) (rowLine (c .crtc .counters .rc) (scrollLines (c .video .sscr))) pens)
-      (sprites : Overlay (c .sprites) (frameLine c) shown) where
-    -- the pen at x less the scroll
-    main-pen : (x : ℕ) → x < 640 → mainAt pens (c .video .sscr % 16) x ≡ mainPen c ram x
-    unfolding mainPen screenPen
-    main-pen x h =
-        either-side x (c .video .sscr % 16)
-        (λ less. rw (lt-ltb x (c .video .sscr % 16) less) (main .lead (x + 16 - c .video .sscr % 16) (omega arith)))
-        (λ more.
-        let e : x + 16 - c .video .sscr % 16 ≡ 16 + (x - c .video .sscr % 16) = omega arith in
-        rw (le-ltb x (c .video .sscr % 16) more, e) (main .pen (x - c .video .sscr % 16) (omega arith)))
-
-    entry : (x : ℕ) → x < 640 → mixedAt pens shown store edgesOf x ≡ entryAt c ram store x
-    unfolding mixedAt overAt entryAt
-    entry x h = rw (edges x h, sprites .first store x, main-pen x h)
+  module _ (ram store : List ℕ) (shown : LineSprites) (sprites : Overlay (c .sprites) (frameLine c) shown) where
+    entry : (x : ℕ) → x < 640 → mixedAt ram mainOf shown store edgesOf x ≡ entryAt c ram store x
+    unfolding mixedAt overAt entryAt mainAt mainPen screenPen
+    entry x h = rw (edges x h, sprites .first store x)
 
     pub served :
         {before after : List ℕ} → 0 ≡ drawAnswer c (length ram) (length store) (length before) →
-        Has (mixedAt pens shown store edgesOf) 640 after → length after ≡ length before → Draws c ram store before after 0
+        Has (mixedAt ram mainOf shown store edgesOf) 640 after → length after ≡ length before → Draws c ram store before after 0
     served answered has same =
         record {
           answer = answered;

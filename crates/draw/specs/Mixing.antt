@@ -9,11 +9,13 @@ use lib.ListN.{getD}
 use Rattle.common.specs.Choice.{if, either, bit}
 use Rattle.crtc.specs.declared.Registers.{Registers}
 use Rattle.crtc.specs.declared.Counters.{Counters}
+use Rattle.screen.specs.MainLine.{linePen}
 use Rattle.overlay.specs.Overlay.{firstOn}
 use Rattle.overlay.specs.Stretches.{firstCover}
 use Rattle.overlay.specs.declared.LineSprite.{LineSprite}
 use Rattle.overlay.specs.declared.LineSprites.{LineSprites}
 use Rattle.draw.specs.declared.Edges.{Edges}
+use Rattle.draw.specs.declared.Main.{Main}
 
 -- the left edge is at 16 if SSCR bit 7 is set
 abbrev pub leftOf : ℕ → ℕ
@@ -27,9 +29,13 @@ rightOf r c = if (either (c .adjust) (leb (r .r6) (c .vc))) 0 (if (leb 40 (r .r1
 abbrev pub outside : ℕ → ℕ → ℕ → Bool
 outside left right x = either (ltb x left) (leb right x)
 
--- the main pen at x, where the line's pens have 16 of pen 0 before them
-abbrev pub mainAt : List ℕ → ℕ → ℕ → ℕ
-mainAt pens scroll x = getD pens (x + 16 - scroll) 0
+-- the main pen at x: pen 0 left of the scroll
+unfoldable pub mainAt : List ℕ → Main → ℕ → ℕ
+mainAt ram m x = if (ltb x (m .scroll)) 0 (linePen ram (m .mode) (m .address) (m .row) (x - m .scroll))
+
+-- the same from a line's pens, which have 16 of pen 0 before them
+abbrev pub penAcross : List ℕ → ℕ → ℕ → ℕ
+penAcross pens scroll x = getD pens (x + 16 - scroll) 0
 
 -- a sprite's pixel over an entry: 0 lets it show
 abbrev pub over : ℕ → ℕ → ℕ
@@ -39,14 +45,14 @@ over pixel v = if (eqb pixel 0) v (16 + pixel)
 unfoldable pub overAt : List ℕ → List LineSprite → ℕ → ℕ → ℕ → ℕ
 overAt store list n x v = over (firstOn store list x n) v
 
--- the same of so many that cover a stretch, by its start
-unfoldable pub coveredAt : List ℕ → List ℕ → List ℕ → ℕ → ℕ → ℕ → ℕ → ℕ
-coveredAt store bases scales count from x v = over (firstCover store bases scales (x - from) count) v
+-- the same of so many that cover a stretch
+unfoldable pub coveredAt : List ℕ → List LineSprite → List ℕ → ℕ → ℕ → ℕ → ℕ
+coveredAt store list covers count x v = over (firstCover store list covers x count) v
 
 -- border, then the first sprite with a pixel there, then the main pen
-unfoldable pub mixedAt : List ℕ → LineSprites → List ℕ → Edges → ℕ → ℕ
-mixedAt pens shown store edges x =
-    if (outside (edges .left) (edges .right) x) 16 (overAt store (shown .list) (shown .count) x (mainAt pens (edges .scroll) x))
+unfoldable pub mixedAt : List ℕ → Main → LineSprites → List ℕ → Edges → ℕ → ℕ
+mixedAt ram main shown store edges x =
+    if (outside (edges .left) (edges .right) x) 16 (overAt store (shown .list) (shown .count) x (mainAt ram main x))
 
 -- a line has what a function gives, below n
 pub record Has (f : ℕ → ℕ) (n : ℕ) (line : List ℕ) : Type 0 where

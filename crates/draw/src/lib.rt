@@ -8,6 +8,7 @@ use common::size::RAM;
 use common::size::STORE;
 use crtc::Counters;
 use crtc::Registers;
+use overlay::LineSprite;
 use overlay::LineSprites;
 use overlay::Stretch;
 ghost use mathlib.Core.Path.{_≡_};
@@ -18,12 +19,19 @@ ghost use Rattle.picture.specs.Screen.{rowLine};
 ghost use Rattle.overlay.specs.Overlay.{Kept};
 ghost use Rattle.overlay.specs.Stretches.{Covered};
 ghost use Rattle.draw.specs.Drawing.{Draws};
-ghost use Rattle.draw.specs.Mixing.{leftOf, rightOf, mainAt, overAt, coveredAt, mixedAt, Has, Changed};
+ghost use Rattle.draw.specs.Mixing.{leftOf, rightOf, penAcross, mainAt, overAt, coveredAt, mixedAt, Has, Changed};
 
-// Where a line is border, which is below `left` and from `right` on, and where its main screen starts.
+// Where a line is border, which is below `left` and from `right` on.
 struct Edges {
     left: usize,
     right: usize,
+}
+
+// The main screen on a line: its mode, the screen address, the line in the row, and how many positions the scroll moves it right.
+struct Main {
+    mode: u8,
+    address: u16,
+    row: u8,
     scroll: usize,
 }
 
@@ -42,7 +50,7 @@ fn fill_border(line: &mut [u8])
 // The main pens from one position up to another, with the line's pens.
 fn lay_pens(line: &mut [u8], pens: &[u8], scroll: usize, from: usize, to: usize)
     requires { ⌜ (length (now line) ≡ 640) × (length (now pens) ≡ 656) × (scroll ≤ 16) × (from ≤ to) × (to ≤ 640) ⌝ }
-    ensures { λ r. ⌜ Changed (λ x v. mainAt (now (pens .entry)) scroll x) from to (now (line .entry)) (now (line .exit)) ⌝ }
+    ensures { λ r. ⌜ Changed (λ x v. penAcross (now (pens .entry)) scroll x) from to (now (line .entry)) (now (line .exit)) ⌝ }
 {
     let mut x = from;
     while x < to {
@@ -51,26 +59,49 @@ fn lay_pens(line: &mut [u8], pens: &[u8], scroll: usize, from: usize, to: usize)
     }
 }
 
-// The sprites that cover a stretch from `from` on: at each position the first of them that isn't transparent there.
+// The main screen from one position up to another. Its pens are made where they are laid: a whole line of them, handed on, would be
+// copied.
+fn lay_main(line: &mut [u8], ram: &[u8], main: Main, from: usize, to: usize)
+    requires { ⌜ (length (now line) ≡ 640) × (main .scroll ≤ 16) × (from ≤ to) × (to ≤ 640) ⌝ }
+    ensures { λ r. ⌜ Changed (λ x v. mainAt (now (ram .entry)) main x) from to (now (line .entry)) (now (line .exit)) ⌝ }
+{
+    let pens = screen::line_pens(ram, main.mode, main.address, main.row);
+    lay_pens(line, &pens, main.scroll, from, to);
+}
+
+// The sprites that cover a stretch from `from` on: at each position the first of them that isn't transparent there. The first of
+// them all is asked ahead of the others.
 fn lay_stretch(
     line: &mut [u8],
     store: &[u8],
-    bases: &[usize],
-    scales: &[u16],
+    list: [LineSprite; 16],
+    covers: &[usize],
     s: Stretch,
     from: usize,
 )
-    requires { ⌜ (length (now line) ≡ 640) × (length (now store) ≡ 4096) × (length (now bases) ≡ 16) × (length (now scales) ≡ 16) ⌝ }
-    requires { ⌜ (from ≤ s .until) × (s .until ≤ 640) × Covered s from (now bases) (now scales) ⌝ }
-    ensures { λ r. ⌜ Changed (coveredAt (now (store .entry)) (now (bases .entry)) (now (scales .entry)) (s .count) from) from (s .until) (now (line .entry)) (now (line .exit)) ⌝ }
+    requires { ⌜ (length (now line) ≡ 640) × (length (now store) ≡ 4096) × (length (now covers) ≡ 16) ⌝ }
+    requires { ⌜ (from ≤ s .until) × (s .until ≤ 640) × Covered list (now covers) s from ⌝ }
+    ensures { λ r. ⌜ Changed (coveredAt (now (store .entry)) list (now (covers .entry)) (s .count)) from (s .until) (now (line .entry)) (now (line .exit)) ⌝ }
 {
     let count = s.count;
-    let size = s.until - from;
-    'pixel: for d in 0..size {
-        for k in 0..count {
-            let pixel = store[overlay::divided(bases[k] + d, scales[k])] % 16;
+    let until = s.until;
+    if count == 0 {
+        return;
+    }
+    let lowest = covers[0];
+    let front = list[lowest];
+    'pixel: for x in from..until {
+        let first = overlay::pixel_of(store, front, x);
+        if first != 0 {
+            line[x] = 16 + first;
+            continue 'pixel;
+        }
+        for k in 1..count {
+            let n = covers[k];
+            let e = list[n];
+            let pixel = overlay::pixel_of(store, e, x);
             if pixel != 0 {
-                line[from + d] = 16 + pixel;
+                line[x] = 16 + pixel;
                 continue 'pixel;
             }
         }
@@ -83,26 +114,29 @@ fn lay_sprites(line: &mut [u8], shown: LineSprites, store: &[u8], from: usize, t
     ensures { λ r. ⌜ Changed (overAt (now (store .entry)) (shown .list) (shown .count)) from to (now (line .entry)) (now (line .exit)) ⌝ }
 {
     let list = shown.list;
-    let count = shown.count;
-    if count == 0 {
+    let total = shown.count;
+    if total == 0 {
         return;
     }
-    let mut bases = [0usize; 16];
-    let mut scales = [0u16; 16];
-    let mut first = 0;
-    let mut x = from;
-    while x < to {
-        let s = overlay::stretch_from(list, first, count, x as u16, to, &mut bases, &mut scales);
-        lay_stretch(line, store, &bases, &scales, s, x);
-        first = s.first;
-        x = s.until;
+    let order = overlay::starts(list, total);
+    let rights = overlay::ends(list, total);
+    let mut covers = [0usize; 16];
+    let mut s = Stretch {
+        count: 0,
+        begun: 0,
+        until: from,
+    };
+    while s.until < to {
+        let x = s.until;
+        s = overlay::next_stretch(&rights, &order, total, &mut covers, s, to);
+        lay_stretch(line, store, list, &covers, s, x);
     }
 }
 
 // Each of the 640 entries: border, else the first sprite that isn't transparent there, else the main pen.
-fn mix(line: &mut [u8], pens: &[u8], shown: LineSprites, store: &[u8], edges: Edges)
-    requires { ⌜ (length (now line) ≡ 640) × (length (now pens) ≡ 656) × (length (now store) ≡ 4096) × (edges .right ≤ 640) × (edges .scroll ≤ 16) × Kept shown ⌝ }
-    ensures { λ r. ⌜ Has (mixedAt (now (pens .entry)) shown (now (store .entry)) edges) 640 (now (line .exit)) ⌝ }
+fn mix(line: &mut [u8], ram: &[u8], main: Main, shown: LineSprites, store: &[u8], edges: Edges)
+    requires { ⌜ (length (now line) ≡ 640) × (length (now store) ≡ 4096) × (edges .right ≤ 640) × (main .scroll ≤ 16) × Kept shown ⌝ }
+    ensures { λ r. ⌜ Has (mixedAt (now (ram .entry)) main shown (now (store .entry)) edges) 640 (now (line .exit)) ⌝ }
 {
     let left = edges.left;
     let right = edges.right;
@@ -110,7 +144,7 @@ fn mix(line: &mut [u8], pens: &[u8], shown: LineSprites, store: &[u8], edges: Ed
     if right <= left {
         return;
     }
-    lay_pens(line, pens, edges.scroll, left, right);
+    lay_main(line, ram, main, left, right);
     lay_sprites(line, shown, store, left, right);
 }
 
@@ -183,14 +217,18 @@ pub fn draw(chip: Chip, ram: &[u8], store: &[u8], line: &mut [u8]) -> u8
     let registers = crtc.registers;
     let counters = crtc.counters;
     let sscr = chip.video.sscr;
-    let pens = screen::line_pens(ram, mode, counters.address, row_line(counters.rc, sscr));
     let sprites = chip.sprites;
     let shown = overlay::line_sprites(sprites, frame_line(registers, counters));
     let edges = Edges {
         left: left_of(sscr),
         right: right_of(registers, counters),
+    };
+    let main = Main {
+        mode,
+        address: counters.address,
+        row: row_line(counters.rc, sscr),
         scroll: scroll_of(sscr),
     };
-    mix(line, &pens, shown, store, edges);
+    mix(line, ram, main, shown, store, edges);
     DONE
 }

@@ -1,7 +1,7 @@
--- The numbers of a loop over at most sixteen: they fit, and so do a sprite's. Told once, so that no proof searches for them.
+-- The numbers of a loop over at most sixteen: they fit. Told once, so that no proof searches for them.
 use mathlib.Core.Path.{_≡_}
 use mathlib.Core.List.{List}
-use Prim.Native.Nat.{ℕ, _+_, _-_, _*_, _^_, _<_, _≤_}
+use Prim.Native.Nat.{ℕ, _+_, _*_, _^_, _<_, _≤_}
 use native.Mathlib.Omega.{arith}
 use lib.ListN.{length}
 use mir.Syntax.{Width, w64}
@@ -29,9 +29,6 @@ module _ {k n : ℕ} (less : k < n) (few : n ≤ 16) where
     pub place-fits : {w : Width} → 8192 ≤ 2 ^ bits w → Fits w (k * 256 + row * 16)
     place-fits room = record { fits = omega arith }
 
-  pub two-fit : Fits w64 (k * 2)
-  two-fit = record { fits = omega arith }
-
   pub six-fit : Fits w64 (k * 6)
   six-fit = record { fits = omega arith }
 
@@ -40,20 +37,3 @@ next-le less = omega arith
 
 pub in-length : {A : Type 0} (l : List A) {k : ℕ} → k < 16 → length l ≡ 16 → k < length l
 in-length l less is = rw is less
-
--- a magnification and what a sprite spans
-module _ {m : ℕ} (few : m ≤ 4) where
-  pub scale-fits : Fits w64 m
-  scale-fits = record { fits = omega arith }
-
-  pub span-fits : Fits w64 (16 * m)
-  span-fits = record { fits = omega arith }
-
-  pub end-fits : {x : ℕ} (d : ℕ) → x < 65536 → Fits w64 (x + (16 * m - d))
-  end-fits d h = record { fits = omega arith }
-
-pub base-fits : {n : ℕ} → n < 16384 → Fits w64 n
-base-fits h = record { fits = omega arith }
-
-pub left-fits : {n : ℕ} (d : ℕ) → n + d < 16384 → Fits w64 n
-left-fits d h = record { fits = omega arith }

@@ -2,9 +2,11 @@
 -- sprites that a line can show in a list of its own.
 use mathlib.Core.Path.{_≡_}
 use mathlib.Core.List.{List}
+use mathlib.Core.Bool.{true, false}
 use Prim.Native.Nat.{ℕ, zero, suc, _+_, _/_, _%_, _<_, _≤_}
 use lib.Dec.{eqb}
 use lib.IntN.{ℤ, pos, _-ℤ_}
+use lib.Signed.{ltZ}
 use lib.ListN.{getD}
 use Rattle.common.specs.Choice.{if}
 use Rattle.picture.specs.Sprites.{offSprite}
@@ -56,6 +58,16 @@ noLineSprite = record { x = pos 0; magnification = 0; pixels = 0 }
 -- the pixel at x of the first of so many that has one, else 0
 unfoldable pub firstOn : List ℕ → List LineSprite → ℕ → ℕ → ℕ
 firstOn store list x count = firstOf (λ k. pixelOn store (getD list k noLineSprite) x) count
+
+-- a sprite at X begins at a position: those before it lie left of its edge, and no others do
+pub record Begins (z : ℤ) (left : ℕ) : Type 0 where
+  pub before : (p : ℕ) → p < left → ltZ (pos p -ℤ z) (pos 0) ≡ true
+  pub after : (p : ℕ) → left ≤ p → ltZ (pos p -ℤ z) (pos 0) ≡ false
+
+-- and ends at a position: those before it lie nearer to its edge than it spans, and no others do
+pub record Ends (z : ℤ) (span right : ℕ) : Type 0 where
+  pub before : (p d : ℕ) → p < right → pos p -ℤ z ≡ pos d → d < span
+  pub after : (p d : ℕ) → right ≤ p → pos p -ℤ z ≡ pos d → span ≤ d
 
 -- one that is kept has a magnification, and the 16 pixels of its row lie in the store
 pub record Sized (e : LineSprite) : Type 0 where

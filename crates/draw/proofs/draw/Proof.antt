@@ -29,12 +29,6 @@ returns-4 c =
     kept _ (λ e. omega arith)
     (simp (eq-eqb _ _ (l .before .before .if1 .left), eq-eqb _ _ (l .before .if2 .left), eq-eqb _ _ (l .if3 .left), eq-eqb _ _ (c .if4 .taken)))
 
-row-line-requires : tie.Need-row-line-requires
-row-line-requires c κs = tt
-
-line-pens-requires : tie.Need-line-pens-requires
-line-pens-requires c κs = tt
-
 frame-line-requires : tie.Need-frame-line-requires
 frame-line-requires c κs = tt
 
@@ -47,20 +41,19 @@ left-of-requires c κs = tt
 right-of-requires : tie.Need-right-of-requires
 right-of-requires c κs = tt
 
+row-line-requires : tie.Need-row-line-requires
+row-line-requires c κs = tt
+
 scroll-of-requires : tie.Need-scroll-of-requires
 scroll-of-requires c κs = tt
 
-slice-aggregate-mix : tie.Need-slice-aggregate-mix
-slice-aggregate-mix c = search needs
-
 mix-requires : tie.Need-mix-requires
 mix-requires c κs =
-    let s = c .before .before in
-    let r = s .before in
+    let s = c .before in
+    let r = s .before .before in
     let o = r .before .before in
-    let p = o .before .before .before in
-    let e = p .before .before .before .before .before .before .before in
-    (e .if3 .left, p .line-pens .ensures .size, e .before .if2 .left, r .right-of .ensures .1, rw (s .scroll-of .ensures) (omega arith), o .line-sprites .ensures .kept)
+    let e = o .before .before .before .before .before .before .before .before in
+    (e .if3 .left, e .before .if2 .left, r .right-of .ensures .1, rw (s .scroll-of .ensures) (omega arith), o .line-sprites .ensures .kept)
 
 same-length : tie.Need-same-length
 same-length c = search needs
@@ -69,18 +62,17 @@ returns-5 : tie.Need-returns-5
 unfolding drawAnswer
 returns-5 c =
     let m = c .before .before in
-    let s = m .before .before .before in
-    let r = s .before in
+    let s = m .before .before in
+    let w = s .before in
+    let r = w .before in
     let l = r .before in
     let o = l .before in
     let f = o .before in
-    let p = f .before .before in
-    let g = p .before .before .before .before .before in
+    let g = f .before .before .before .before .before in
     let e = g .before .before in
-    served _ _ _ _ _ (rw (p .before .row-line .ensures) at (p .line-pens .ensures))
-    (rw (f .frame-line .ensures) at (o .line-sprites .ensures))
+    served _ _ _ _ (rw (f .frame-line .ensures) at (o .line-sprites .ensures))
     (simp (eq-eqb _ _ (e .before .before .if1 .left), eq-eqb _ _ (e .before .if2 .left), eq-eqb _ _ (e .if3 .left), ne-eqb _ _ (g .if4 .left)))
-    (rw (l .left-of .ensures, r .right-of .ensures .0, s .scroll-of .ensures) at (m .mix .ensures))
+    (rw (l .left-of .ensures, r .right-of .ensures .0, w .row-line .ensures, s .scroll-of .ensures) at (m .mix .ensures))
     (search needs)
 
 pub draw-spec : {M : Type 1} → statement M
@@ -91,14 +83,12 @@ draw-spec =
     returns-2
     returns-3
     returns-4
-    row-line-requires
-    line-pens-requires
     frame-line-requires
     line-sprites-requires
     left-of-requires
     right-of-requires
+    row-line-requires
     scroll-of-requires
-    slice-aggregate-mix
     mix-requires
     same-length
     returns-5)

@@ -6,14 +6,14 @@ use mathlib.Core.Path.{_≡_, refl, sym, _∙_}
 use Prim.Native.Nat.{_≤_, _-_}
 use lib.ListN.{length, length-set}
 use Rattle.overlay.proofs.Turns.{next-le}
-use Rattle.draw.specs.Mixing.{mainAt, Changed}
+use Rattle.draw.specs.Mixing.{penAcross, Changed}
 use Rattle.draw.proofs.Turns.{next-fits, on-line, pen-fits, pen-place, pen-at}
 use Rattle.draw.proofs.Entries.{changed-none, changed-more}
 use Rattle.draw.proofs.lay_pens.Statement.{statement}
 use Rattle.draw.proofs.lay_pens.Tie as tie
 
 abbrev Inv-loop : tie.InvT-loop
-Inv-loop line₀ pens scroll from to x₀ line x = (from ≤ x) × (x ≤ to) × (length line ≡ 640) × Changed (λ p v. mainAt pens scroll p) from x line₀ line
+Inv-loop line₀ pens scroll from to x₀ line x = (from ≤ x) × (x ≤ to) × (length line ≡ 640) × Changed (λ p v. penAcross pens scroll p) from x line₀ line
 
 abbrev μ-loop : tie.MeasureT-loop
 μ-loop line₀ pens scroll from to x₀ line x = to - x
