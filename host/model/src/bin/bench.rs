@@ -56,6 +56,8 @@ struct Case {
     magnification: u8,
     /// Positions from one sprite's left edge to the next one's.
     apart: u16,
+    /// The sprite of the highest number stands leftmost, and not that of the lowest.
+    falling: bool,
 }
 
 const fn case(name: &'static str, work: Work, count: usize, sprites: u16, mode: u8) -> Case {
@@ -68,10 +70,11 @@ const fn case(name: &'static str, work: Work, count: usize, sprites: u16, mode: 
         transparent: false,
         magnification: 0b1111,
         apart: 40,
+        falling: false,
     }
 }
 
-const CASES: [Case; 32] = [
+const CASES: [Case; 36] = [
     case("line step", Work::Step, 100_000, 0, 1),
     case("page write", Work::PageWrite, 100_000, 0, 1),
     case("page read", Work::PageRead, 100_000, 0, 1),
@@ -147,6 +150,52 @@ const CASES: [Case; 32] = [
         transparent: true,
         ..case(
             "draw, 16 transparent, 1 apart, magnification 1",
+            Work::Draw,
+            2_000,
+            16,
+            1,
+        )
+    },
+    Case {
+        falling: true,
+        ..case(
+            "draw, 16 sprites, highest leftmost",
+            Work::Draw,
+            2_000,
+            16,
+            1,
+        )
+    },
+    Case {
+        falling: true,
+        transparent: true,
+        ..case(
+            "draw, 16 transparent, highest leftmost",
+            Work::Draw,
+            2_000,
+            16,
+            1,
+        )
+    },
+    Case {
+        apart: 1,
+        falling: true,
+        transparent: true,
+        ..case(
+            "draw, 16 transparent, 1 apart, highest leftmost",
+            Work::Draw,
+            2_000,
+            16,
+            1,
+        )
+    },
+    Case {
+        magnification: 0b0101,
+        apart: 1,
+        falling: true,
+        transparent: true,
+        ..case(
+            "draw, 16 transparent, 1 apart, magnification 1, highest leftmost",
             Work::Draw,
             2_000,
             16,
@@ -237,7 +286,12 @@ fn set_up<M: UnderTest>(case: &Case) -> M {
     machine.registers(&[(1, 40), (4, 38), (6, 39), (9, 7), (12, 0x30)]);
     machine.write_7f(0x80 | case.mode);
     for n in 0..case.sprites {
-        for (address, byte) in coordinates(n, n * case.apart, 0) {
+        let place = if case.falling {
+            case.sprites - 1 - n
+        } else {
+            n
+        };
+        for (address, byte) in coordinates(n, place * case.apart, 0) {
             machine.poke(address, byte);
         }
         machine.poke(0x6004 + 8 * n, case.magnification);
