@@ -1,3 +1,4 @@
 -- Laws of the chip's calls.
 pub mod Serving
 pub mod ChannelLaws
+pub mod EditingLaws

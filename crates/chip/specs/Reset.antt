@@ -3,6 +3,7 @@ use mathlib.Core.Path.{_≡_}
 use mathlib.Core.Bool.{false}
 use mathlib.Core.List.{[]}
 use lib.ListN.{replicate}
+use Rattle.editors.specs.Table.{noTable}
 use Rattle.lock.specs.Machine.{resetLock, Tracks}
 use Rattle.sound.specs.Line.{offChannel}
 use Rattle.sound.specs.declared.Sound.{Sound}
@@ -10,6 +11,7 @@ use Rattle.crtc.specs.declared.Video.{Video}
 use Rattle.picture.specs.Sprites.{offSprite}
 use Rattle.chip.specs.declared.Crtc.{Crtc}
 use Rattle.chip.specs.declared.Chip.{Chip}
+use Rattle.chip.specs.Editors.{noEntries}
 
 -- all registers and counters 0; the first line has screen address 0
 abbrev pub resetCrtc : Crtc
@@ -27,7 +29,7 @@ resetVideo = record { pri = 0; «split_line» = 0; «split_high» = 0; «split_l
 abbrev pub resetSound : Sound
 resetSound = record { channels = replicate 3 offChannel; psg = replicate 16 0 }
 
--- locked, page not mapped, all sprites off, the palette 0, no interrupt waiting, IVR 01h; nothing to undo
+-- locked, page not mapped, all sprites off, the palette 0, no interrupt waiting, IVR 01h; no table, and nothing to undo
 unfoldable pub resetChip : Chip
 resetChip =
     record {
@@ -39,7 +41,7 @@ resetChip =
       palette = replicate 64 0;
       sound = resetSound;
       interrupts = record { raster = false; «last_raster» = false; ivr = 1 };
-      editing = record { undo = record { next = 0; count = 0 } };
+      editing = record { table = noTable; song = noEntries; picture = noEntries };
     }
 
 -- what reset promises: the chip, and a lock that has been fed no byte

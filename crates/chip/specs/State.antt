@@ -9,7 +9,6 @@ use Rattle.crtc.specs.declared.Registers.{Registers}
 use Rattle.crtc.specs.declared.Counters.{Counters}
 use Rattle.crtc.specs.declared.Video.{Video}
 use Rattle.picture.specs.declared.sprite.Sprite.{Sprite}
-use Rattle.ring.specs.declared.Undo.{Undo}
 use Rattle.chip.specs.declared.Gate.{Gate}
 use Rattle.chip.specs.declared.Crtc.{Crtc}
 use Rattle.chip.specs.declared.Interrupts.{Interrupts}
@@ -141,10 +140,6 @@ withEditing c x =
       interrupts = c .interrupts;
       editing = x;
     }
-
--- the undo record changed
-abbrev pub withUndo : Chip → Undo → Chip
-withUndo c u = withEditing c (record { undo = u })
 
 -- the three channels changed, the PSG kept
 abbrev pub withChannels : Chip → List Channel → Chip

@@ -2,6 +2,7 @@
 use crtc::Counters;
 use crtc::Registers;
 use crtc::Video;
+use editors::Table;
 use lock::Lock;
 use picture::sprite::Sprite;
 use ring::Undo;
@@ -12,6 +13,7 @@ pub mod acknowledge;
 pub mod line;
 pub mod ports;
 pub mod start;
+pub mod table;
 
 // The gate array: the screen mode, and whether the register page is mapped.
 #[repr(C)]
@@ -36,23 +38,27 @@ pub struct Interrupts {
     pub ivr: u8,
 }
 
-// What is kept for those who edit: the record of page writes that can be taken back, whose places are lent.
+// What is kept for the editors: the table of who may write what, and for each the record of its page writes that can be taken back,
+// whose places are lent.
 #[repr(C)]
 pub struct Editing {
-    pub undo: Undo,
+    pub table: Table,
+    pub song: Undo,
+    pub picture: Undo,
 }
 
-// The whole state. The palette has two bytes an entry, low then high.
+// The whole state. The palette has two bytes an entry, low then high. The parts stand so that they leave few bytes between them:
+// of 256 bytes a copy is short.
 #[repr(C)]
 pub struct Chip {
     pub lock: Lock,
     pub gate: Gate,
     pub crtc: Crtc,
     pub video: Video,
+    pub interrupts: Interrupts,
     pub sprites: [Sprite; 16],
     pub palette: [u8; 64],
     pub sound: Sound,
-    pub interrupts: Interrupts,
     pub editing: Editing,
 }
 

@@ -79,6 +79,7 @@ pub fn reset() -> Chip
     let sprites = [sprite; 16];
     let palette = [0u8; 64];
     let lock = Lock::new();
+    let table = editors::no_table();
     Chip {
         lock,
         gate: Gate {
@@ -96,7 +97,9 @@ pub fn reset() -> Chip
             ivr: 1,
         },
         editing: Editing {
-            undo: Undo { next: 0, count: 0 },
+            table,
+            song: Undo { next: 0, count: 0 },
+            picture: Undo { next: 0, count: 0 },
         },
     }
 }

@@ -63,6 +63,10 @@ badRecord = 13
 abbrev pub noRoom : ℕ
 noRoom = 14
 
+-- a register that is not this editor's
+abbrev pub notYours : ℕ
+notYours = 15
+
 -- what a served call gives, or what stands in its place where the number is a refusal
 abbrev pub served : {A : Type 0} → ℕ → A → A → A
 served number x other = if (eqb number done) x other

@@ -40,5 +40,8 @@ pub const NOT_MET: u8 = 12;
 // a take has a bad record;
 pub const BAD_RECORD: u8 = 13;
 
-// the output is too small for a take, or its count or offset too large.
+// the output is too small for a take, or its count or offset too large;
 pub const NO_ROOM: u8 = 14;
+
+// a register that is not this editor's.
+pub const NOT_YOURS: u8 = 15;

@@ -1,10 +1,22 @@
-// What all crates share: the answer numbers, the lengths of buffers, a byte of a lent buffer, and bytes stored in one.
+// What all crates share: the answer numbers, the lengths of buffers, one bit of a number, a byte of a
+// lent buffer, and bytes stored in one.
 pub mod answer;
 pub mod size;
 
 ghost use mathlib.Core.Path.{_≡_};
 ghost use lib.ListN.{getD};
+ghost use Rattle.common.specs.Choice.{bit};
 ghost use Rattle.common.specs.Storing.{PutsIfRoom};
+
+// Bit n of a number.
+pub fn bit_at(x: u32, n: usize) -> bool
+    ensures { λ r. ⌜ r ≡ bit n x ⌝ }
+{
+    if 32 <= n {
+        return false;
+    }
+    (x >> n) % 2 == 1
+}
 
 // The byte at a place of a buffer, or 0 past its end.
 pub fn byte_at(bytes: &[u8], at: usize) -> u8

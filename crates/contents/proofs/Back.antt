@@ -6,6 +6,7 @@ use native.Mathlib.Nat.{mod-mod, mod-eq-of-lt}
 use native.Mathlib.Omega.{arith}
 use lib.ListN.{length, getD, set}
 use lib.Seq.{getD-set-same, set-set, set-getD}
+use Rattle.editors.specs.declared.Editor.{Editor}
 use Rattle.sound.specs.declared.Channel.{Channel}
 use Rattle.sound.specs.Channels.{withAddress}
 use Rattle.sound.specs.Line.{channelOf, offChannel}
@@ -51,9 +52,9 @@ list-back : {A : Type 0} (l : List A) (n : ℕ) (d : A) (f g : A → A) → n < 
 list-back l n d f g h e =
     rw (getD-set-same l n (f (getD l n d)) d h, e) (set-set l n (f (getD l n d)) (getD l n d) ∙ set-getD l n d)
 
-module _ (c : Chip) (store : List ℕ) (b : ℕ) (h : b < 256) (w : Widths c) where
+module _ (c : Chip) (ed : Editor) (store : List ℕ) (b : ℕ) (h : b < 256) (w : Widths c) where
   -- bit for bit the chip
-  pub chip-back : (x : Register) → Holds x → registerWritten (registerWritten c x b) x (contents c store x) ≡ c
+  pub chip-back : (x : Register) → Holds x → registerWritten (registerWritten c ed x b) ed x (contents c store x) ≡ c
   chip-back (Pixel i) k = refl
   chip-back (SpriteAt n p) k =
       ap (withSprites c)

@@ -1,12 +1,16 @@
 -- All registers' bytes as one list of blocks of units of bytes, so that a write sets one byte of it, whatever its register. This form
 -- serves only the proofs: "for every two registers" then comes from the laws of one list.
 use mathlib.Core.Path.{_≡_, refl, ap, sym, _∙_}
+use mathlib.Core.Bool.{Bool, true, false}
 use mathlib.Core.List.{List, [], _∷_, map}
 use Prim.Native.Nat.{ℕ, zero, suc, _*_, _/_, _%_, _<_}
 use native.Mathlib.Omega.{arith}
 use lib.ListN.{length, getD, set}
 use lib.Seq.{getD-set-other}
 use Rattle.common.proofs.Lists.{after-set}
+use Rattle.common.specs.Choice.{if}
+use Rattle.editors.specs.declared.Editor.{Editor}
+use Rattle.editors.specs.declared.Table.{Table}
 use Rattle.sound.specs.declared.Channel.{Channel}
 use Rattle.sound.specs.Line.{channelOf, offChannel}
 use Rattle.crtc.specs.declared.Video.{Video}
@@ -20,7 +24,8 @@ use Rattle.registers.specs.declared.address.ChannelRegister.{ChannelRegister}
 use Rattle.registers.specs.declared.address.ChannelRegister.the-variants.{StartLow, StartHigh, Prescale}
 use Rattle.registers.specs.declared.address.Register.{Register}
 use Rattle.registers.specs.declared.address.Register.the-variants.{Pixel, Sprite as SpriteAt, Palette, Video as VideoAt, Ivr, Converter, Channel as ChannelAt, Dcsr, Status, Empty}
-use Rattle.registers.specs.Registers.{channelWritten, videoWritten, dcsrWritten, registerWritten, storePut}
+use Rattle.registers.specs.Owners.{ownsChannel}
+use Rattle.registers.specs.Registers.{channelWritten, videoWritten, controlWritten, dcsrWritten, registerWritten, storePut}
 use Rattle.contents.specs.Contents.{videoKept, channelKept, contents}
 use Rattle.contents.proofs.Off.{off-sprite}
 
@@ -170,30 +175,36 @@ video-bytes v SplitLow b = refl
 video-bytes v Sscr b = refl
 
 -- DCSR has no contents, and no byte of a channel is its
-control-bytes : (cs : List Channel) (b : ℕ) → length cs ≡ 3 → map channelBytes (dcsrWritten cs b) ≡ map channelBytes cs
-control-bytes [] b h = absurd (omega arith)
-control-bytes (x ∷ []) b h = absurd (omega arith)
-control-bytes (x ∷ y ∷ []) b h = absurd (omega arith)
-control-bytes (x ∷ y ∷ z ∷ []) b h = refl
-control-bytes (x ∷ y ∷ z ∷ w ∷ cs) b h = absurd (omega arith)
+controlled-bytes : (own : Bool) (b n : ℕ) (d : Channel) → channelBytes (if own (controlWritten b n d) d) ≡ channelBytes d
+controlled-bytes true b n d = refl
+controlled-bytes false b n d = refl
+
+control-bytes : (t : Table) (ed : Editor) (cs : List Channel) (b : ℕ) → length cs ≡ 3 →
+    map channelBytes (dcsrWritten t ed cs b) ≡ map channelBytes cs
+control-bytes t ed [] b h = absurd (omega arith)
+control-bytes t ed (x ∷ []) b h = absurd (omega arith)
+control-bytes t ed (x ∷ y ∷ []) b h = absurd (omega arith)
+control-bytes t ed (x ∷ y ∷ z ∷ []) b h =
+    rw (controlled-bytes (ownsChannel t ed 0) b 0 x, controlled-bytes (ownsChannel t ed 1) b 1 y, controlled-bytes (ownsChannel t ed 2) b 2 z)
+control-bytes t ed (x ∷ y ∷ z ∷ w ∷ cs) b h = absurd (omega arith)
 
 -- a byte put into the chip and one into the store set one byte of them all
-pub bytes-put : (c : Chip) (store : List ℕ) (x : Register) (b v : ℕ) → b < 256 → length (c .sound .channels) ≡ 3 →
-    bytesOf (registerWritten c x b) (storePut store x v) ≡ setAt (bytesOf c store) (placeOf x) (bytePut x b v)
-bytes-put c store (Pixel i) b v h k = refl
-bytes-put c store (Palette i) b v h k = refl
-bytes-put c store (VideoAt r) b v h k = rw (video-bytes (c .video) r b)
-bytes-put c store Ivr b v h k = refl
-bytes-put c store (ChannelAt n r) b v h k =
+pub bytes-put : (c : Chip) (ed : Editor) (store : List ℕ) (x : Register) (b v : ℕ) → b < 256 → length (c .sound .channels) ≡ 3 →
+    bytesOf (registerWritten c ed x b) (storePut store x v) ≡ setAt (bytesOf c store) (placeOf x) (bytePut x b v)
+bytes-put c ed store (Pixel i) b v h k = refl
+bytes-put c ed store (Palette i) b v h k = refl
+bytes-put c ed store (VideoAt r) b v h k = rw (video-bytes (c .video) r b)
+bytes-put c ed store Ivr b v h k = refl
+bytes-put c ed store (ChannelAt n r) b v h k =
     rw (one-set channelBytes (c .sound .channels) n (channelPlace r) (channelKept r b)
     (channelWritten (channelOf (c .sound .channels) n) r b) offChannel (channel-bytes (channelOf (c .sound .channels) n) r b h))
-bytes-put c store (SpriteAt n p) b v h k =
+bytes-put c ed store (SpriteAt n p) b v h k =
     rw (one-set spriteBytes (c .sprites) n p (spriteKept p b) (written (getD (c .sprites) n offSprite) p b) offSprite
     (sprite-bytes (getD (c .sprites) n offSprite) p b h))
-bytes-put c store Converter b v h k = refl
-bytes-put c store Dcsr b v h k = rw (control-bytes (c .sound .channels) b k)
-bytes-put c store Status b v h k = refl
-bytes-put c store Empty b v h k = refl
+bytes-put c ed store Converter b v h k = refl
+bytes-put c ed store Dcsr b v h k = rw (control-bytes (c .editing .table) ed (c .sound .channels) b k)
+bytes-put c ed store Status b v h k = refl
+bytes-put c ed store Empty b v h k = refl
 
 -- the register of a place
 videoOf : ℕ → VideoRegister

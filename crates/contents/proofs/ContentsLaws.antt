@@ -12,6 +12,7 @@ use Rattle.common.specs.Choice.{if}
 use Rattle.picture.specs.Palette.{keptByte}
 use Rattle.picture.specs.Sprites.{spriteBytes}
 use Rattle.picture.proofs.SpriteBytes.{sprite-kept}
+use Rattle.editors.specs.declared.Editor.{Editor}
 use Rattle.chip.specs.declared.Chip.{Chip}
 use Rattle.registers.specs.declared.address.VideoRegister.the-variants.{Pri, SplitLine, SplitHigh, SplitLow, Sscr}
 use Rattle.registers.specs.declared.address.ChannelRegister.{ChannelRegister}
@@ -73,23 +74,23 @@ module _ (c : Chip) (store : List ℕ) (w : Widths c) (pixels : length store ≡
   place-set Empty h = absurd h
 
 -- a byte put into the chip or, of a pixel, another into the store
-module _ (c : Chip) (store : List ℕ) (w : Widths c) (x : Register) (b v : ℕ) (h : b < 256) where
+module _ (c : Chip) (ed : Editor) (store : List ℕ) (w : Widths c) (x : Register) (b v : ℕ) (h : b < 256) where
   -- no other register's contents differ
   pub other-stays :
-      (y : Register) → (y ≡ x → ⊥) → contents (registerWritten c x b) (storePut store x v) y ≡ contents c store y
+      (y : Register) → (y ≡ x → ⊥) → contents (registerWritten c ed x b) (storePut store x v) y ≡ contents c store y
   other-stays y apart =
-      contents-byte (registerWritten c x b) (storePut store x v) y
+      contents-byte (registerWritten c ed x b) (storePut store x v) y
       ∙ ap (bitsOf y)
-      (rw (bytes-put c store x b v h (w .three))
+      (rw (bytes-put c ed store x b v h (w .three))
       (at-other (bytesOf c store) (placeOf x) (bytePut x b v) (placeOf y) (λ e f g. apart (same-register x y e f g))))
       ∙ sym (contents-byte c store y)
 
   -- and its own are these bits
   pub own-set :
-      length store ≡ 4096 → Holds x → contents (registerWritten c x b) (storePut store x v) x ≡ bytePut x b v
+      length store ≡ 4096 → Holds x → contents (registerWritten c ed x b) (storePut store x v) x ≡ bytePut x b v
   own-set pixels holds =
-      contents-byte (registerWritten c x b) (storePut store x v) x
-      ∙ rw (bytes-put c store x b v h (w .three), place-set c store w pixels (bytePut x b v) x holds) (kept-again x b v)
+      contents-byte (registerWritten c ed x b) (storePut store x v) x
+      ∙ rw (bytes-put c ed store x b v h (w .three), place-set c store w pixels (bytePut x b v) x holds) (kept-again x b v)
 
 -- what a write puts are the bits kept
 kept-put : (x : Register) (b : ℕ) → bytePut x b (b % 16) ≡ bitsKept x b
@@ -106,20 +107,20 @@ kept-put Empty b = refl
 
 -- a write: its own contents
 pub written-contents :
-    (c : Chip) (store : List ℕ) (x : Register) (b : ℕ) → Widths c → length store ≡ 4096 → b < 256 → Holds x →
-    contents (registerWritten c x b) (storeWritten store x b) x ≡ bitsKept x b
-written-contents c store x b w pixels h holds = own-set c store w x b (b % 16) h pixels holds ∙ kept-put x b
+    (c : Chip) (ed : Editor) (store : List ℕ) (x : Register) (b : ℕ) → Widths c → length store ≡ 4096 → b < 256 → Holds x →
+    contents (registerWritten c ed x b) (storeWritten store x b) x ≡ bitsKept x b
+written-contents c ed store x b w pixels h holds = own-set c ed store w x b (b % 16) h pixels holds ∙ kept-put x b
 
 -- a write: those of any other register
 pub written-others :
-    (c : Chip) (store : List ℕ) (x : Register) (b : ℕ) → Widths c → b < 256 → (y : Register) → (y ≡ x → ⊥) →
-    contents (registerWritten c x b) (storeWritten store x b) y ≡ contents c store y
-written-others c store x b w h y apart = other-stays c store w x b (b % 16) h y apart
+    (c : Chip) (ed : Editor) (store : List ℕ) (x : Register) (b : ℕ) → Widths c → b < 256 → (y : Register) → (y ≡ x → ⊥) →
+    contents (registerWritten c ed x b) (storeWritten store x b) y ≡ contents c store y
+written-others c ed store x b w h y apart = other-stays c ed store w x b (b % 16) h y apart
 
 -- contents put back are the contents
 pub put-contents :
-    (c d : Chip) (store before : List ℕ) (x : Register) → Widths c → length store ≡ 4096 → contents d before x < 256 → Holds x →
-    contents (registerWritten c x (contents d before x)) (storePut store x (contents d before x)) x ≡ contents d before x
-put-contents c d store before x w pixels h holds =
-    own-set c store w x _ _ h pixels holds
+    (c d : Chip) (ed : Editor) (store before : List ℕ) (x : Register) → Widths c → length store ≡ 4096 → contents d before x < 256 → Holds x →
+    contents (registerWritten c ed x (contents d before x)) (storePut store x (contents d before x)) x ≡ contents d before x
+put-contents c d ed store before x w pixels h holds =
+    own-set c ed store w x _ _ h pixels holds
     ∙ rw (contents-byte d before x) (kept-again x (byteAt (bytesOf d before) (placeOf x)) (byteAt (bytesOf d before) (placeOf x)))

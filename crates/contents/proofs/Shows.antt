@@ -11,6 +11,7 @@ use lib.ListN.{getD}
 use Rattle.common.specs.Choice.{if}
 use Rattle.picture.specs.declared.sprite.Sprite.{Sprite}
 use Rattle.picture.specs.Sprites.{offSprite, rawOf, coordinate, highShown, shown, spriteContents, SpriteWidths}
+use Rattle.editors.specs.declared.Editor.{Editor}
 use Rattle.chip.specs.declared.Chip.{Chip}
 use Rattle.registers.specs.declared.address.Register.{Register}
 use Rattle.registers.specs.declared.address.Register.the-variants.{Pixel, Sprite as SpriteAt, Palette, Video as VideoAt, Ivr, Converter, Channel as ChannelAt, Dcsr, Status, Empty}
@@ -52,18 +53,18 @@ sprite-shows s (suc (suc (suc zero))) bus w = high-read 512 1 (s .y) (w .y-width
 sprite-shows s (suc (suc (suc (suc p)))) bus w = simp (le-ltb (suc (suc (suc (suc p)))) 4 (omega arith))
 
 pub read-shows :
-    (c : Chip) (store : List ℕ) (x : Register) (bus : ℕ) → Widths c →
-    registerRead c store x bus ≡ shownBy x (contents c store x) (dcsr c) bus
-read-shows c store (Pixel i) bus w = refl
-read-shows c store (SpriteAt n p) bus w = sprite-shows (getD (c .sprites) n offSprite) p bus (w .sprite n)
-read-shows c store (Palette i) bus w = refl
-read-shows c store (VideoAt r) bus w = refl
-read-shows c store Ivr bus w = refl
-read-shows c store Converter bus w = refl
-read-shows c store (ChannelAt n r) bus w = refl
-read-shows c store Dcsr bus w = refl
-read-shows c store Status bus w = refl
-read-shows c store Empty bus w = refl
+    (c : Chip) (ed : Editor) (store : List ℕ) (x : Register) (bus : ℕ) → Widths c →
+    registerRead c ed store x bus ≡ shownBy x (contents c store x) (dcsr c ed) bus
+read-shows c ed store (Pixel i) bus w = refl
+read-shows c ed store (SpriteAt n p) bus w = sprite-shows (getD (c .sprites) n offSprite) p bus (w .sprite n)
+read-shows c ed store (Palette i) bus w = refl
+read-shows c ed store (VideoAt r) bus w = refl
+read-shows c ed store Ivr bus w = refl
+read-shows c ed store Converter bus w = refl
+read-shows c ed store (ChannelAt n r) bus w = refl
+read-shows c ed store Dcsr bus w = refl
+read-shows c ed store Status bus w = refl
+read-shows c ed store Empty bus w = refl
 
 -- what shows DCSR doesn't show its contents, and the rest not DCSR
 dcsr-shown : (x : Register) (u v d bus : ℕ) → showsDcsr x ≡ true → shownBy x u d bus ≡ shownBy x v d bus
@@ -92,11 +93,12 @@ own-shown Empty v d e bus h = refl
 
 -- chips within the widths: a register that shows its contents reads the same where these are the same, and one that shows DCSR where
 -- that is
-module _ (c d : Chip) (s t : List ℕ) (wc : Widths c) (wd : Widths d) (x : Register) (bus : ℕ) where
-  pub same-own : showsDcsr x ≡ false → contents c s x ≡ contents d t x → registerRead c s x bus ≡ registerRead d t x bus
+module _ (c d : Chip) (ed : Editor) (s t : List ℕ) (wc : Widths c) (wd : Widths d) (x : Register) (bus : ℕ) where
+  pub same-own : showsDcsr x ≡ false → contents c s x ≡ contents d t x → registerRead c ed s x bus ≡ registerRead d ed t x bus
   same-own h same =
-      rw (read-shows c s x bus wc, read-shows d t x bus wd, same) (own-shown x (contents d t x) (dcsr c) (dcsr d) bus h)
+      rw (read-shows c ed s x bus wc, read-shows d ed t x bus wd, same) (own-shown x (contents d t x) (dcsr c ed) (dcsr d ed) bus h)
 
-  pub same-dcsr : dcsr c ≡ dcsr d → showsDcsr x ≡ true → registerRead c s x bus ≡ registerRead d t x bus
+  pub same-dcsr : dcsr c ed ≡ dcsr d ed → showsDcsr x ≡ true → registerRead c ed s x bus ≡ registerRead d ed t x bus
   same-dcsr e h =
-      rw (read-shows c s x bus wc, read-shows d t x bus wd, e) (dcsr-shown x (contents c s x) (contents d t x) (dcsr d) bus h)
+      rw (read-shows c ed s x bus wc, read-shows d ed t x bus wd, e)
+      (dcsr-shown x (contents c s x) (contents d t x) (dcsr d ed) bus h)

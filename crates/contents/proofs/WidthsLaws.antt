@@ -9,6 +9,8 @@ use lib.Dec.{eqb}
 use lib.ListN.{length, getD, replicate, length-set}
 use Rattle.common.specs.Choice.{if}
 use Rattle.common.proofs.Lists.{after-set}
+use Rattle.editors.specs.declared.Editor.{Editor}
+use Rattle.editors.specs.declared.Table.{Table}
 use Rattle.sound.specs.declared.Channel.{Channel}
 use Rattle.sound.specs.declared.Sound.{Sound}
 use Rattle.sound.specs.Channels.{withFlags}
@@ -28,7 +30,8 @@ use Rattle.registers.specs.declared.address.ChannelRegister.{ChannelRegister}
 use Rattle.registers.specs.declared.address.ChannelRegister.the-variants.{StartLow, StartHigh, Prescale}
 use Rattle.registers.specs.declared.address.Register.{Register}
 use Rattle.registers.specs.declared.address.Register.the-variants.{Pixel, Sprite as SpriteAt, Palette, Video as VideoAt, Ivr, Converter, Channel as ChannelAt, Dcsr, Status, Empty}
-use Rattle.registers.specs.Registers.{channelWritten, videoWritten, dcsrWritten, registerWritten}
+use Rattle.registers.specs.Owners.{ownsChannel}
+use Rattle.registers.specs.Registers.{channelWritten, videoWritten, controlWritten, dcsrWritten, registerWritten}
 use Rattle.contents.specs.Contents.{contents}
 use Rattle.contents.specs.Widths.{ChannelWidths, VideoWidths, Widths, Bytes}
 use Rattle.contents.proofs.ContentsLaws.{kept-twice}
@@ -128,12 +131,17 @@ flagged : (d : Channel) {enabled interrupt : Bool} → ChannelWidths d → Chann
 flagged d w =
     record { even = w .even; even-mark = w .even-mark; address = w .address; mark = w .mark; prescale = w .prescale }
 
+controlled : (own : Bool) (b n : ℕ) (d : Channel) → ChannelWidths d → ChannelWidths (if own (controlWritten b n d) d)
+controlled true b n d w = flagged d w
+controlled false b n d w = w
+
 control-widths :
-    (cs : List Channel) (b n : ℕ) → ((n : ℕ) → ChannelWidths (channelOf cs n)) → ChannelWidths (channelOf (dcsrWritten cs b) n)
-control-widths cs b zero w = flagged (channelOf cs 0) (w 0)
-control-widths cs b (suc zero) w = flagged (channelOf cs 1) (w 1)
-control-widths cs b (suc (suc zero)) w = flagged (channelOf cs 2) (w 2)
-control-widths cs b (suc (suc (suc n))) w = off-channel
+    (t : Table) (ed : Editor) (cs : List Channel) (b n : ℕ) → ((n : ℕ) → ChannelWidths (channelOf cs n)) →
+    ChannelWidths (channelOf (dcsrWritten t ed cs b) n)
+control-widths t ed cs b zero w = controlled (ownsChannel t ed 0) b 0 (channelOf cs 0) (w 0)
+control-widths t ed cs b (suc zero) w = controlled (ownsChannel t ed 1) b 1 (channelOf cs 1) (w 1)
+control-widths t ed cs b (suc (suc zero)) w = controlled (ownsChannel t ed 2) b 2 (channelOf cs 2) (w 2)
+control-widths t ed cs b (suc (suc (suc n))) w = off-channel
 
 -- one block of a chip within the widths replaced by another that is
 module _ (c : Chip) (w : Widths c) where
@@ -212,28 +220,28 @@ module _ (c : Chip) (w : Widths c) where
       }
 
 -- every write keeps to the widths
-pub write-widths : (c : Chip) (x : Register) (b : ℕ) → b < 256 → Widths c → Widths (registerWritten c x b)
-write-widths c (Pixel i) b h w = w
-write-widths c (SpriteAt n p) b h w =
+pub write-widths : (c : Chip) (ed : Editor) (x : Register) (b : ℕ) → b < 256 → Widths c → Widths (registerWritten c ed x b)
+write-widths c ed (Pixel i) b h w = w
+write-widths c ed (SpriteAt n p) b h w =
     with-sprites c w _ (rw (length-set (c .sprites) n (written (getD (c .sprites) n offSprite) p b)) (w .sixteen))
     (λ m.
     after-set SpriteWidths (c .sprites) n m _ offSprite (w .sprite m)
     (λ e. written-widths (getD (c .sprites) n offSprite) p b h (w .sprite n)))
-write-widths c (Palette i) b h w =
+write-widths c ed (Palette i) b h w =
     with-palette c w _ (rw (length-set (c .palette) i (keptByte i b)) (w .entries))
     (λ j. after-set (λ v. keptByte j v ≡ v) (c .palette) i j _ 0 (w .palette j) (λ e. rw e (kept-twice i b)))
     (λ j. after-set (λ v. v < 256) (c .palette) i j _ 0 (w .colours j) (λ e. kept-byte i b h))
-write-widths c (VideoAt v) b h w = with-video c w (videoWritten (c .video) v b) (video-widths (c .video) v b h (w .video))
-write-widths c Ivr b h w = with-interrupts c w _ h
-write-widths c Converter b h w = w
-write-widths c (ChannelAt n r) b h w =
+write-widths c ed (VideoAt v) b h w = with-video c w (videoWritten (c .video) v b) (video-widths (c .video) v b h (w .video))
+write-widths c ed Ivr b h w = with-interrupts c w _ h
+write-widths c ed Converter b h w = w
+write-widths c ed (ChannelAt n r) b h w =
     with-sound c w _ (rw (length-set (c .sound .channels) n (channelWritten (channelOf (c .sound .channels) n) r b)) (w .three))
     (λ m.
     after-set ChannelWidths (c .sound .channels) n m _ offChannel (w .channel m)
     (λ e. channel-widths (channelOf (c .sound .channels) n) r b h (w .channel n)))
-write-widths c Dcsr b h w = with-sound c w _ refl (λ n. control-widths (c .sound .channels) b n (w .channel))
-write-widths c Status b h w = w
-write-widths c Empty b h w = w
+write-widths c ed Dcsr b h w = with-sound c w _ refl (λ n. control-widths (c .editing .table) ed (c .sound .channels) b n (w .channel))
+write-widths c ed Status b h w = w
+write-widths c ed Empty b h w = w
 
 -- within the widths, contents are bytes
 pub contents-small : (c : Chip) (store : List ℕ) → Widths c → Bytes store → (x : Register) → contents c store x < 256

@@ -23,8 +23,8 @@ pub struct Counters {
     pub vc: u8,
     pub rc: u8,
     pub adjust: bool,
-    pub address: u16,
     pub held: bool,
+    pub address: u16,
     pub split: u16,
 }
 

@@ -9,9 +9,11 @@ use Rattle.common.specs.Choice.{if}
 use Rattle.common.specs.Sizes.{storeBytes}
 use Rattle.ring.specs.declared.Undo.{Undo}
 use Rattle.ring.specs.Ring.{popped}
+use Rattle.editors.specs.declared.Editor.{Editor}
 use Rattle.chip.specs.declared.Chip.{Chip}
 use Rattle.chip.specs.declared.Answered.{Answered}
-use Rattle.chip.specs.State.{withUndo}
+use Rattle.chip.specs.State.{withEditing}
+use Rattle.chip.specs.Editors.{undoOf, editingWith}
 use Rattle.registers.specs.declared.address.Register.{Register}
 use Rattle.registers.specs.declared.address.Register.the-variants.{Empty}
 use Rattle.registers.specs.Address.{registerAt}
@@ -44,26 +46,30 @@ abbrev pub backChange : Undo → ℕ → ℕ → Change
 backChange u size e =
     if (eqb size storeBytes) (if (eqb (u .count) 0) (refusal u nothingToUndo) (undoChange u e)) (refusal u wrongLength)
 
--- what an edit changes, with what stands at the record's place
-abbrev pub changeOf : Chip → List ℕ → ℕ → Edit → Change
-changeOf c store place (Write a b) =
-    served (writeAnswer c (length store) a) (writeChange (c .editing .undo) a b) (refusal (c .editing .undo) (writeAnswer c (length store) a))
-changeOf c store place Back = backChange (c .editing .undo) (length store) place
+-- what an editor's edit changes, with what stands at the record's place
+abbrev pub changeOf : Chip → Editor → List ℕ → ℕ → Edit → Change
+changeOf c ed store place (Write a b) =
+    served (writeAnswer c ed (length store) a) (writeChange (undoOf (c .editing) ed) a b)
+    (refusal (undoOf (c .editing) ed) (writeAnswer c ed (length store) a))
+changeOf c ed store place Back = backChange (undoOf (c .editing) ed) (length store) place
 
 -- and what stands there after it
-abbrev pub placeAfter : Chip → List ℕ → ℕ → Edit → ℕ
-placeAfter c store place (Write a b) =
-    served (writeAnswer c (length store) a) (if (isKept (registerAt a)) (entryAt c store a) place) place
-placeAfter c store place Back = place
+abbrev pub placeAfter : Chip → Editor → List ℕ → ℕ → Edit → ℕ
+placeAfter c ed store place (Write a b) =
+    served (writeAnswer c ed (length store) a) (if (isKept (registerAt a)) (entryAt c store a) place) place
+placeAfter c ed store place Back = place
 
-pub record Changes (c : Chip) (store : List ℕ) (place : ℕ) (e : Edit) (place' : ℕ) (r : Change) : Type 0 where
-  pub change : r ≡ changeOf c store place e
-  pub place-after : place' ≡ placeAfter c store place e
+pub record Changes (c : Chip) (ed : Editor) (store : List ℕ) (place : ℕ) (e : Edit) (place' : ℕ) (r : Change) : Type 0 where
+  pub change : r ≡ changeOf c ed store place e
+  pub place-after : place' ≡ placeAfter c ed store place e
+
+-- the chip with a change made: the register has the byte, and the editor's record its new state
+abbrev pub changedBy : Chip → Editor → Change → Chip
+changedBy c ed h = withEditing (registerWritten c ed (h .register) (h .byte)) (editingWith (c .editing) ed (h .undo))
 
 -- an edit made
-pub record Edits (c : Chip) (store : List ℕ) (place : ℕ) (e : Edit) (store' : List ℕ) (place' : ℕ) (r : Answered) : Type 0 where
-  pub answer : r .answer ≡ changeOf c store place e .answer
-  pub chip :
-      r .chip ≡ withUndo (registerWritten c (changeOf c store place e .register) (changeOf c store place e .byte)) (changeOf c store place e .undo)
-  pub store-after : store' ≡ storePut store (changeOf c store place e .register) (changeOf c store place e .pixel)
-  pub place-after : place' ≡ placeAfter c store place e
+pub record Edits (c : Chip) (ed : Editor) (store : List ℕ) (place : ℕ) (e : Edit) (store' : List ℕ) (place' : ℕ) (r : Answered) : Type 0 where
+  pub answer : r .answer ≡ changeOf c ed store place e .answer
+  pub chip : r .chip ≡ changedBy c ed (changeOf c ed store place e)
+  pub store-after : store' ≡ storePut store (changeOf c ed store place e .register) (changeOf c ed store place e .pixel)
+  pub place-after : place' ≡ placeAfter c ed store place e

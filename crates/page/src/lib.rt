@@ -1,12 +1,12 @@
 // The register page: reads, writes with their record, and undo.
 use chip::Answered;
 use chip::Chip;
-use chip::Editing;
 use common::answer::DONE;
 use common::answer::NOT_MAPPED;
 use common::answer::NOTHING_TO_UNDO;
 use common::answer::WRONG_LENGTH;
 use common::size::STORE;
+use editors::Editor;
 use registers::address::Register;
 use ring::Undo;
 ghost use mathlib.Core.Path.{_≡_};
@@ -58,15 +58,15 @@ fn read_answer(chip: Chip, size: usize, address: u16) -> u8
     DONE
 }
 
-// The answer number of a page write to this register.
-fn write_answer(chip: Chip, size: usize, address: u16, register: Register) -> u8
-    ensures { λ r. ⌜ r ≡ pageAnswer chip size address (registerAnswer register) ⌝ }
+// The answer number of an editor's page write to this register.
+fn write_answer(chip: Chip, editor: Editor, size: usize, address: u16, register: Register) -> u8
+    ensures { λ r. ⌜ r ≡ pageAnswer chip size address (registerAnswer (chip .editing .table) editor register) ⌝ }
 {
     let answer = read_answer(chip, size, address);
     if answer != DONE {
         return answer;
     }
-    registers::writing::register_answer(register)
+    registers::writing::register_answer(chip.editing.table, editor, register)
 }
 
 // The state of the record after a served write to this register, whose entry is given; one to DCSR is not kept.
@@ -94,12 +94,19 @@ fn refusal(undo: Undo, answer: u8) -> Change
 }
 
 // A byte written to an address; of a pixel 4 bits are stored.
-fn write_change(chip: Chip, store: &[u8], place: &mut u32, address: u16, byte: u8) -> Change
-    ensures { λ r. ⌜ Changes chip (now (store .entry)) (now (place .entry)) (Write address byte) (now (place .exit)) r ⌝ }
+fn write_change(
+    chip: Chip,
+    editor: Editor,
+    store: &[u8],
+    place: &mut u32,
+    address: u16,
+    byte: u8,
+) -> Change
+    ensures { λ r. ⌜ Changes chip editor (now (store .entry)) (now (place .entry)) (Write address byte) (now (place .exit)) r ⌝ }
 {
-    let undo = chip.editing.undo;
+    let undo = chip::table::undo_of(chip.editing, editor);
     let register = registers::address::register_at(address);
-    let answer = write_answer(chip, store.len(), address, register);
+    let answer = write_answer(chip, editor, store.len(), address, register);
     if answer != DONE {
         return refusal(undo, answer);
     }
@@ -135,27 +142,30 @@ fn undo_change(undo: Undo, length: usize, entry: u32) -> Change
 }
 
 // What an edit changes. `place` is what the record has at the place of the entry that a write puts there, or that is taken back.
-fn change_of(chip: Chip, store: &[u8], place: &mut u32, edit: Edit) -> Change
-    ensures { λ r. ⌜ Changes chip (now (store .entry)) (now (place .entry)) edit (now (place .exit)) r ⌝ }
+fn change_of(chip: Chip, editor: Editor, store: &[u8], place: &mut u32, edit: Edit) -> Change
+    ensures { λ r. ⌜ Changes chip editor (now (store .entry)) (now (place .entry)) edit (now (place .exit)) r ⌝ }
 {
     match edit {
-        Edit::Write(address, byte) => write_change(chip, store, place, address, byte),
-        Edit::Back => undo_change(chip.editing.undo, store.len(), *place),
+        Edit::Write(address, byte) => write_change(chip, editor, store, place, address, byte),
+        Edit::Back => {
+            let undo = chip::table::undo_of(chip.editing, editor);
+            undo_change(undo, store.len(), *place)
+        }
     }
 }
 
 // Makes an edit. Page write and undo are this one function, which changes the chip in place: a call of it copies the chip once in and
 // once out, and a function between would copy it again.
-fn edited(mut chip: Chip, store: &mut [u8], place: &mut u32, edit: Edit) -> Answered
-    ensures { λ r. ⌜ Edits chip (now (store .entry)) (now (place .entry)) edit (now (store .exit)) (now (place .exit)) r ⌝ }
+fn edited(mut chip: Chip, editor: Editor, store: &mut [u8], place: &mut u32, edit: Edit) -> Answered
+    ensures { λ r. ⌜ Edits chip editor (now (store .entry)) (now (place .entry)) edit (now (store .exit)) (now (place .exit)) r ⌝ }
 {
-    let change = change_of(chip, store, place, edit);
+    let change = change_of(chip, editor, store, place, edit);
     let answer = change.answer;
     let register = change.register;
     let byte = change.byte;
     let undo = change.undo;
     registers::writing::store_put(store, register, change.pixel);
-    let editing = Editing { undo };
+    let editing = chip::table::with_undo(chip.editing, editor, undo);
     chip.editing = editing;
     match register {
         Register::Pixel(_) => {}
@@ -179,7 +189,12 @@ fn edited(mut chip: Chip, store: &mut [u8], place: &mut u32, edit: Edit) -> Answ
             chip.sound = registers::writing::channels_written(chip.sound, n, which, byte);
         }
         Register::Dcsr => {
-            chip.sound = registers::writing::dcsr_written(chip.sound, byte);
+            chip.sound = registers::writing::dcsr_written(
+                chip.sound,
+                chip.editing.table,
+                editor,
+                byte,
+            );
         }
         Register::Status => {}
         Register::Empty => {}
@@ -187,35 +202,36 @@ fn edited(mut chip: Chip, store: &mut [u8], place: &mut u32, edit: Edit) -> Answ
     Answered { chip, answer }
 }
 
-// A byte written to the page. The record of writes stands at the lent places.
+// A byte that an editor writes to the page. Its record of writes stands at the lent places.
 pub fn page_write(
     chip: Chip,
+    editor: Editor,
     store: &mut [u8],
     places: &mut [u32; 256],
     address: u16,
     byte: u8,
 ) -> Answered
-    ensures { λ r. ⌜ Writes chip (now (store .entry)) (now (places .entry)) address byte (now (store .exit)) (now (places .exit)) r ⌝ }
+    ensures { λ r. ⌜ Writes chip editor (now (store .entry)) (now (places .entry)) address byte (now (store .exit)) (now (places .exit)) r ⌝ }
 {
-    let undo = chip.editing.undo;
+    let undo = chip::table::undo_of(chip.editing, editor);
     let mut place = undo.standing(places);
-    let done = edited(chip, store, &mut place, Edit::Write(address, byte));
+    let done = edited(chip, editor, store, &mut place, Edit::Write(address, byte));
     undo.put(places, place);
     done
 }
 
-// Takes back the newest write that the record has left: its register gets its former contents.
-pub fn undo(chip: Chip, store: &mut [u8], places: &[u32; 256]) -> Answered
-    ensures { λ r. ⌜ Undoes chip (now (store .entry)) (now (places .entry)) (now (store .exit)) r ⌝ }
+// Takes back the newest write that an editor's record has left: its register gets its former contents.
+pub fn undo(chip: Chip, editor: Editor, store: &mut [u8], places: &[u32; 256]) -> Answered
+    ensures { λ r. ⌜ Undoes chip editor (now (store .entry)) (now (places .entry)) (now (store .exit)) r ⌝ }
 {
-    let undo = chip.editing.undo;
+    let undo = chip::table::undo_of(chip.editing, editor);
     let mut place = undo.newest(places);
-    edited(chip, store, &mut place, Edit::Back)
+    edited(chip, editor, store, &mut place, Edit::Back)
 }
 
-// A byte read from the page; `bus` is what the bus holds where nothing can be read.
-pub fn page_read(chip: Chip, store: &[u8], address: u16, bus: u8) -> ByteRead
-    ensures { λ r. ⌜ Reads chip (now (store .entry)) address bus r ⌝ }
+// A byte that an editor reads from the page; `bus` is what the bus holds where nothing can be read.
+pub fn page_read(chip: Chip, editor: Editor, store: &[u8], address: u16, bus: u8) -> ByteRead
+    ensures { λ r. ⌜ Reads chip editor (now (store .entry)) address bus r ⌝ }
 {
     let answer = read_answer(chip, store.len(), address);
     if answer != DONE {
@@ -224,6 +240,6 @@ pub fn page_read(chip: Chip, store: &[u8], address: u16, bus: u8) -> ByteRead
     let register = registers::address::register_at(address);
     ByteRead {
         answer: DONE,
-        byte: registers::reading::register_read(chip, store, register, bus),
+        byte: registers::reading::register_read(chip, editor, store, register, bus),
     }
 }

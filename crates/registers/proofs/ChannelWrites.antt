@@ -1,12 +1,14 @@
 -- 01, "The register page": what a write does to each sound channel.
 use mathlib.Core.Path.{_≡_, refl, ap, sym}
-use mathlib.Core.Bool.{Bool, true}
+use mathlib.Core.Bool.{Bool, true, false}
 use mathlib.Core.List.{List}
 use Prim.Native.Nat.{ℕ, zero, suc, _<_}
 use native.Mathlib.Omega.{arith}
 use lib.Seq.{getD-set-other}
-use Rattle.common.specs.Choice.{bit}
+use Rattle.common.specs.Choice.{if, bit}
 use Rattle.common.proofs.Lists.{after-set}
+use Rattle.editors.specs.declared.Editor.{Editor}
+use Rattle.editors.specs.declared.Table.{Table}
 use Rattle.sound.specs.declared.Channel.{Channel}
 use Rattle.sound.specs.Line.{offChannel, channelOf}
 use Rattle.chip.specs.declared.Chip.{Chip}
@@ -15,17 +17,19 @@ use Rattle.registers.specs.declared.address.ChannelRegister.the-variants
 use Rattle.registers.specs.declared.address.Register.{Register}
 use Rattle.registers.specs.declared.address.Register.the-variants.{Pixel, Sprite, Palette, Video, Ivr, Converter, Channel as ChannelAt, Dcsr, Status, Empty}
 use Rattle.chip.specs.Channels.{Keeps, LeftAlone}
-use Rattle.registers.specs.Registers.{channelWritten, controlWritten, dcsrWritten, registerWritten}
+use Rattle.registers.specs.Owners.{ownsChannel}
+use Rattle.registers.specs.Registers.{channelWritten, controlWritten, controlBy, dcsrWritten, registerWritten}
 
 alone-self : (d : Channel) → LeftAlone d d
 alone-self d = record { address = refl; prescale = refl; enabled = λ e. e }
 
 -- channel n after a DCSR write
-dcsr-channel : (cs : List Channel) (b n : ℕ) → n < 3 → channelOf (dcsrWritten cs b) n ≡ controlWritten b n (channelOf cs n)
-dcsr-channel cs b zero h = refl
-dcsr-channel cs b (suc zero) h = refl
-dcsr-channel cs b (suc (suc zero)) h = refl
-dcsr-channel cs b (suc (suc (suc n))) h = absurd (omega arith)
+pub dcsr-channel : (t : Table) (e : Editor) (cs : List Channel) (b n : ℕ) → n < 3 →
+    channelOf (dcsrWritten t e cs b) n ≡ controlBy t e b n (channelOf cs n)
+dcsr-channel t e cs b zero h = refl
+dcsr-channel t e cs b (suc zero) h = refl
+dcsr-channel t e cs b (suc (suc zero)) h = refl
+dcsr-channel t e cs b (suc (suc (suc n))) h = absurd (omega arith)
 
 -- a channel with other flags, address and prescale
 kept : (d : Channel) {enabled interrupt : Bool} {address prescale : ℕ} →
@@ -47,39 +51,52 @@ written-keeps d StartLow b = kept d
 written-keeps d StartHigh b = kept d
 written-keeps d Prescale b = kept d
 
--- no page write moves a channel's pause, line count, loop counter or mark
-pub page-leaves : (c : Chip) (x : Register) (b n : ℕ) → n < 3 →
-    Keeps (channelOf (c .sound .channels) n) (channelOf (registerWritten c x b .sound .channels) n)
-page-leaves c (Pixel i) b n h = kept (channelOf (c .sound .channels) n)
-page-leaves c (Sprite k p) b n h = kept (channelOf (c .sound .channels) n)
-page-leaves c (Palette i) b n h = kept (channelOf (c .sound .channels) n)
-page-leaves c (Video v) b n h = kept (channelOf (c .sound .channels) n)
-page-leaves c Ivr b n h = kept (channelOf (c .sound .channels) n)
-page-leaves c Converter b n h = kept (channelOf (c .sound .channels) n)
-page-leaves c (ChannelAt m r) b n h =
-    let cs = c .sound .channels in
-    after-set (λ e. Keeps (channelOf cs n) e) cs m n (channelWritten (channelOf cs m) r b) offChannel
-    (kept (channelOf cs n))
-    (λ e. rw e (written-keeps (channelOf cs m) r b))
-page-leaves c Dcsr b n h = rw (dcsr-channel (c .sound .channels) b n h) (kept (channelOf (c .sound .channels) n))
-page-leaves c Status b n h = kept (channelOf (c .sound .channels) n)
-page-leaves c Empty b n h = kept (channelOf (c .sound .channels) n)
+-- a channel's flags are written, or it stays
+control-keeps : (own : Bool) (b n : ℕ) (d : Channel) → Keeps d (if own (controlWritten b n d) d)
+control-keeps true b n d = kept d
+control-keeps false b n d = kept d
 
--- a write to a register that is not channel n's, and not DCSR with bit n clear while it is enabled, leaves its address, prescale and
--- a set enable
-pub page-alone : (c : Chip) (x : Register) (b n : ℕ) → n < 3 →
-    ((r : ChannelRegister) → x ≡ ChannelAt n r → ⊥) → (x ≡ Dcsr → channelOf (c .sound .channels) n .enabled ≡ true → bit n b ≡ true) →
-    LeftAlone (channelOf (c .sound .channels) n) (channelOf (registerWritten c x b .sound .channels) n)
-page-alone c (Pixel i) b n h own control = alone-self _
-page-alone c (Sprite k p) b n h own control = alone-self _
-page-alone c (Palette i) b n h own control = alone-self _
-page-alone c (Video v) b n h own control = alone-self _
-page-alone c Ivr b n h own control = alone-self _
-page-alone c Converter b n h own control = alone-self _
-page-alone c (ChannelAt m r) b n h own control =
-    rw (getD-set-other (c .sound .channels) m n _ offChannel (λ e. own r (ap (λ k. ChannelAt k r) (sym e)))) (alone-self _)
-page-alone c Dcsr b n h own control =
-    rw (dcsr-channel (c .sound .channels) b n h)
-    (record { address = refl; prescale = refl; enabled = control refl })
-page-alone c Status b n h own control = alone-self _
-page-alone c Empty b n h own control = alone-self _
+control-alone : (own : Bool) (b n : ℕ) (d : Channel) → (own ≡ true → d .enabled ≡ true → bit n b ≡ true) →
+    LeftAlone d (if own (controlWritten b n d) d)
+control-alone true b n d set = record { address = refl; prescale = refl; enabled = set refl }
+control-alone false b n d set = alone-self d
+
+-- no page write moves a channel's pause, line count, loop counter or mark
+pub page-leaves : (c : Chip) (e : Editor) (x : Register) (b n : ℕ) → n < 3 →
+    Keeps (channelOf (c .sound .channels) n) (channelOf (registerWritten c e x b .sound .channels) n)
+page-leaves c e (Pixel i) b n h = kept (channelOf (c .sound .channels) n)
+page-leaves c e (Sprite k p) b n h = kept (channelOf (c .sound .channels) n)
+page-leaves c e (Palette i) b n h = kept (channelOf (c .sound .channels) n)
+page-leaves c e (Video v) b n h = kept (channelOf (c .sound .channels) n)
+page-leaves c e Ivr b n h = kept (channelOf (c .sound .channels) n)
+page-leaves c e Converter b n h = kept (channelOf (c .sound .channels) n)
+page-leaves c e (ChannelAt m r) b n h =
+    let cs = c .sound .channels in
+    after-set (λ d. Keeps (channelOf cs n) d) cs m n (channelWritten (channelOf cs m) r b) offChannel
+    (kept (channelOf cs n))
+    (λ q. rw q (written-keeps (channelOf cs m) r b))
+page-leaves c e Dcsr b n h =
+    rw (dcsr-channel (c .editing .table) e (c .sound .channels) b n h)
+    (control-keeps (ownsChannel (c .editing .table) e n) b n (channelOf (c .sound .channels) n))
+page-leaves c e Status b n h = kept (channelOf (c .sound .channels) n)
+page-leaves c e Empty b n h = kept (channelOf (c .sound .channels) n)
+
+-- a write to a register that is not channel n's, and not DCSR by its owner with bit n clear while it is enabled, leaves its address,
+-- prescale and a set enable
+pub page-alone : (c : Chip) (e : Editor) (x : Register) (b n : ℕ) → n < 3 →
+    ((r : ChannelRegister) → x ≡ ChannelAt n r → ⊥) →
+    (x ≡ Dcsr → ownsChannel (c .editing .table) e n ≡ true → channelOf (c .sound .channels) n .enabled ≡ true → bit n b ≡ true) →
+    LeftAlone (channelOf (c .sound .channels) n) (channelOf (registerWritten c e x b .sound .channels) n)
+page-alone c e (Pixel i) b n h own control = alone-self _
+page-alone c e (Sprite k p) b n h own control = alone-self _
+page-alone c e (Palette i) b n h own control = alone-self _
+page-alone c e (Video v) b n h own control = alone-self _
+page-alone c e Ivr b n h own control = alone-self _
+page-alone c e Converter b n h own control = alone-self _
+page-alone c e (ChannelAt m r) b n h own control =
+    rw (getD-set-other (c .sound .channels) m n _ offChannel (λ q. own r (ap (λ k. ChannelAt k r) (sym q)))) (alone-self _)
+page-alone c e Dcsr b n h own control =
+    rw (dcsr-channel (c .editing .table) e (c .sound .channels) b n h)
+    (control-alone (ownsChannel (c .editing .table) e n) b n (channelOf (c .sound .channels) n) (control refl))
+page-alone c e Status b n h own control = alone-self _
+page-alone c e Empty b n h own control = alone-self _

@@ -1,11 +1,13 @@
--- 01, "The register page": what a byte written to a register does, and what a register reads as.
-use mathlib.Core.Bool.{Bool, false}
+-- 01, "The register page", with 02, L9: what a byte that an editor writes to a register does, and what a register reads as to it.
+use mathlib.Core.Bool.{Bool, false, not}
 use mathlib.Core.List.{List, [], _∷_}
 use Prim.Native.Nat.{ℕ, _+_, _-_, _*_, _/_, _%_}
 use lib.Dec.{ltb}
 use lib.ListN.{getD, set}
-use Rattle.common.specs.Answers.{done, nothingThere, converterThere}
-use Rattle.common.specs.Choice.{if, bit}
+use Rattle.common.specs.Answers.{done, nothingThere, converterThere, notYours}
+use Rattle.common.specs.Choice.{if, both, bit}
+use Rattle.editors.specs.declared.Editor.{Editor}
+use Rattle.editors.specs.declared.Table.{Table}
 use Rattle.sound.specs.declared.Channel.{Channel}
 use Rattle.sound.specs.Channels.{withAddress, withFlags}
 use Rattle.sound.specs.Line.{channelOf}
@@ -21,19 +23,25 @@ use Rattle.registers.specs.declared.address.ChannelRegister.{ChannelRegi
 use Rattle.registers.specs.declared.address.ChannelRegister.the-variants.{StartLow, StartHigh, Prescale}
 use Rattle.registers.specs.declared.address.Register.{Register}
 use Rattle.registers.specs.declared.address.Register.the-variants.{Pixel, Sprite as SpriteAt, Palette, Video as VideoAt, Ivr, Converter, Channel as ChannelAt, Dcsr, Status, Empty}
+use Rattle.registers.specs.Owners.{owns, ownsChannel}
 
--- what a write to a register answers: a converter has a number of its own; no register, or one that only shows DCSR, has another
-abbrev pub registerAnswer : Register → ℕ
-registerAnswer (Pixel i) = done
-registerAnswer (SpriteAt n p) = done
-registerAnswer (Palette i) = done
-registerAnswer (VideoAt v) = done
-registerAnswer Ivr = done
-registerAnswer Converter = converterThere
-registerAnswer (ChannelAt n r) = done
-registerAnswer Dcsr = done
-registerAnswer Status = nothingThere
-registerAnswer Empty = nothingThere
+-- what a write answers where a register keeps contents: one that is not the editor's is refused
+abbrev pub ownerAnswer : Bool → ℕ
+ownerAnswer owned = if owned done notYours
+
+-- what a write to any register answers: DCSR is served for both editors; a converter has a number of its own; no register, or one
+-- that only shows DCSR, has another
+abbrev pub registerAnswer : Table → Editor → Register → ℕ
+registerAnswer t e (Pixel i) = ownerAnswer (owns t e (Pixel i))
+registerAnswer t e (SpriteAt n p) = ownerAnswer (owns t e (SpriteAt n p))
+registerAnswer t e (Palette i) = ownerAnswer (owns t e (Palette i))
+registerAnswer t e (VideoAt v) = ownerAnswer (owns t e (VideoAt v))
+registerAnswer t e Ivr = ownerAnswer (owns t e Ivr)
+registerAnswer t e Converter = converterThere
+registerAnswer t e (ChannelAt n r) = ownerAnswer (owns t e (ChannelAt n r))
+registerAnswer t e Dcsr = done
+registerAnswer t e Status = nothingThere
+registerAnswer t e Empty = nothingThere
 
 -- sprite n's register at this place gets the byte
 abbrev pub spriteWritten : List Sprite → ℕ → ℕ → ℕ → List Sprite
@@ -106,22 +114,26 @@ channelsWritten cs n r b = set cs n (channelWritten (channelOf cs n) r b)
 abbrev pub controlWritten : ℕ → ℕ → Channel → Channel
 controlWritten b n d = withFlags d (bit n b) (if (bit (6 - n) b) false (d .interrupt))
 
-abbrev pub dcsrWritten : List Channel → ℕ → List Channel
-dcsrWritten cs b =
-    controlWritten b 0 (channelOf cs 0) ∷ controlWritten b 1 (channelOf cs 1) ∷ controlWritten b 2 (channelOf cs 2) ∷ []
+-- and only where the channel is the editor's
+abbrev pub controlBy : Table → Editor → ℕ → ℕ → Channel → Channel
+controlBy t e b n d = if (ownsChannel t e n) (controlWritten b n d) d
 
--- the chip after a byte is written to a register; pixels are in the store and not in the chip
-abbrev pub registerWritten : Chip → Register → ℕ → Chip
-registerWritten c (Pixel i) b = c
-registerWritten c (SpriteAt n p) b = withSprites c (spriteWritten (c .sprites) n p b)
-registerWritten c (Palette i) b = withPalette c (set (c .palette) i (keptByte i b))
-registerWritten c (VideoAt v) b = withVideo c (videoWritten (c .video) v b)
-registerWritten c Ivr b = withIvr c b
-registerWritten c Converter b = c
-registerWritten c (ChannelAt n r) b = withChannels c (channelsWritten (c .sound .channels) n r b)
-registerWritten c Dcsr b = withChannels c (dcsrWritten (c .sound .channels) b)
-registerWritten c Status b = c
-registerWritten c Empty b = c
+abbrev pub dcsrWritten : Table → Editor → List Channel → ℕ → List Channel
+dcsrWritten t e cs b =
+    controlBy t e b 0 (channelOf cs 0) ∷ controlBy t e b 1 (channelOf cs 1) ∷ controlBy t e b 2 (channelOf cs 2) ∷ []
+
+-- the chip after an editor's byte is written to a register; pixels are in the store and not in the chip
+abbrev pub registerWritten : Chip → Editor → Register → ℕ → Chip
+registerWritten c e (Pixel i) b = c
+registerWritten c e (SpriteAt n p) b = withSprites c (spriteWritten (c .sprites) n p b)
+registerWritten c e (Palette i) b = withPalette c (set (c .palette) i (keptByte i b))
+registerWritten c e (VideoAt v) b = withVideo c (videoWritten (c .video) v b)
+registerWritten c e Ivr b = withIvr c b
+registerWritten c e Converter b = c
+registerWritten c e (ChannelAt n r) b = withChannels c (channelsWritten (c .sound .channels) n r b)
+registerWritten c e Dcsr b = withChannels c (dcsrWritten (c .editing .table) e (c .sound .channels) b)
+registerWritten c e Status b = c
+registerWritten c e Empty b = c
 
 -- the store with a byte at a pixel's place; any other register leaves it
 abbrev pub storePut : List ℕ → Register → ℕ → List ℕ
@@ -144,23 +156,31 @@ storeWritten store x b = storePut store x (b % 16)
 abbrev pub flag : Bool → ℕ → ℕ
 flag b weight = if b weight 0
 
--- DCSR: bit 7 if the last acknowledge was raster, bits 6, 5, 4 the interrupts of channels 0, 1, 2, bit 3 zero, bits 2-0 the enables
-unfoldable pub dcsr : Chip → ℕ
-dcsr c =
-    flag (c .interrupts .«last_raster») 128 + flag (channelOf (c .sound .channels) 0 .interrupt) 64
-    + flag (channelOf (c .sound .channels) 1 .interrupt) 32 + flag (channelOf (c .sound .channels) 2 .interrupt) 16
-    + flag (channelOf (c .sound .channels) 2 .enabled) 4 + flag (channelOf (c .sound .channels) 1 .enabled) 2
-    + flag (channelOf (c .sound .channels) 0 .enabled) 1
+-- a channel's bit of DCSR, which its owner alone is shown
+abbrev pub channelFlag : Table → Editor → ℕ → Bool → ℕ → ℕ
+channelFlag t e n b weight = flag (both (ownsChannel t e n) b) weight
 
--- what a register reads as; one that can't be read gives the bus byte: magnification, 6800h to 6805h, and where nothing is
-abbrev pub registerRead : Chip → List ℕ → Register → ℕ → ℕ
-registerRead c store (Pixel i) bus = getD store i 0 % 16
-registerRead c store (SpriteAt n p) bus = if (ltb p 4) (shown (getD (c .sprites) n offSprite) p) bus
-registerRead c store (Palette i) bus = keptByte i (getD (c .palette) i 0)
-registerRead c store (VideoAt v) bus = bus
-registerRead c store Ivr bus = bus
-registerRead c store Converter bus = 0
-registerRead c store (ChannelAt n r) bus = dcsr c
-registerRead c store Dcsr bus = dcsr c
-registerRead c store Status bus = dcsr c
-registerRead c store Empty bus = bus
+-- DCSR as an editor reads it: bit 7 if the last acknowledge was raster and no table holds, bits 6, 5, 4 the interrupts of channels 0,
+-- 1, 2, bit 3 zero, bits 2-0 the enables
+unfoldable pub dcsr : Chip → Editor → ℕ
+dcsr c e =
+    flag (both (not (c .editing .table .held)) (c .interrupts .«last_raster»)) 128
+    + channelFlag (c .editing .table) e 0 (channelOf (c .sound .channels) 0 .interrupt) 64
+    + channelFlag (c .editing .table) e 1 (channelOf (c .sound .channels) 1 .interrupt) 32
+    + channelFlag (c .editing .table) e 2 (channelOf (c .sound .channels) 2 .interrupt) 16
+    + channelFlag (c .editing .table) e 2 (channelOf (c .sound .channels) 2 .enabled) 4
+    + channelFlag (c .editing .table) e 1 (channelOf (c .sound .channels) 1 .enabled) 2
+    + channelFlag (c .editing .table) e 0 (channelOf (c .sound .channels) 0 .enabled) 1
+
+-- what a register reads as to an editor; one that can't be read gives the bus byte: magnification, 6800h to 6805h, and where nothing is
+abbrev pub registerRead : Chip → Editor → List ℕ → Register → ℕ → ℕ
+registerRead c e store (Pixel i) bus = getD store i 0 % 16
+registerRead c e store (SpriteAt n p) bus = if (ltb p 4) (shown (getD (c .sprites) n offSprite) p) bus
+registerRead c e store (Palette i) bus = keptByte i (getD (c .palette) i 0)
+registerRead c e store (VideoAt v) bus = bus
+registerRead c e store Ivr bus = bus
+registerRead c e store Converter bus = 0
+registerRead c e store (ChannelAt n r) bus = dcsr c e
+registerRead c e store Dcsr bus = dcsr c e
+registerRead c e store Status bus = dcsr c e
+registerRead c e store Empty bus = bus

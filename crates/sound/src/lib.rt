@@ -11,10 +11,10 @@ ghost use Rattle.sound.specs.Line.{accessBy, accessOf, disturbance, ownC
 pub struct Channel {
     pub enabled: bool,
     pub interrupt: bool,
-    pub address: u16,
     pub prescale: u8,
-    pub pause: u16,
     pub count: u8,
+    pub address: u16,
+    pub pause: u16,
     pub counter: u16,
     pub mark: u16,
 }

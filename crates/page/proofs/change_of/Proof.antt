@@ -13,6 +13,9 @@ write-change-requires c κs = search needs
 enum-told : tie.Need-enum-told
 enum-told c = search needs
 
+undo-of-requires : tie.Need-undo-of-requires
+undo-of-requires c κs = search needs
+
 undo-change-requires : tie.Need-undo-change-requires
 undo-change-requires c κs = search needs
 
@@ -20,7 +23,9 @@ returns : tie.Need-returns
 returns c = rw (c .before .before .before .edit .given .1) (c .write-change .ensures)
 
 returns-2 : tie.Need-returns-2
-returns-2 c = rw (c .before .before .enum-told .given .1) (record { change = c .undo-change .ensures; place-after = refl })
+returns-2 c =
+    rw (c .before .before .before .enum-told .given .1)
+    (record { change = rw (c .before .before .undo-of .ensures) at (c .undo-change .ensures); place-after = refl })
 
 pub change-of-spec : {M : Type 1} → statement M
 change-of-spec =
@@ -29,6 +34,7 @@ change-of-spec =
     enum-known-edit
     write-change-requires
     enum-told
+    undo-of-requires
     undo-change-requires
     returns
     returns-2)

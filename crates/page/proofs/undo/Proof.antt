@@ -5,6 +5,9 @@ use borrow.Author.Needs.{needs}
 use Rattle.page.proofs.undo.Statement.{statement}
 use Rattle.page.proofs.undo.Tie as tie
 
+undo-of-requires : tie.Need-undo-of-requires
+undo-of-requires c κs = search needs
+
 newest-requires : tie.Need-newest-requires
 newest-requires c κs = search needs
 
@@ -17,7 +20,8 @@ same-length c = search needs
 returns : tie.Need-returns
 returns c =
     let a = c .before .before .before .before .before .before .before .before .args in
-    undoes (a .chip) (a .store .now) (now (a .places)) (rw (c .before .before .before .before .before .newest .ensures) at (c .before .before .edited .ensures))
+    undoes (a .chip) (a .editor) (a .store .now) (now (a .places))
+    (rw (c .before .before .before .before .before .newest .ensures, c .before .before .before .before .before .before .undo-of .ensures) at (c .before .before .edited .ensures))
 
 pub undo-spec : {M : Type 1} → statement M
-undo-spec = tie.close (tie.spec newest-requires edited-requires same-length returns)
+undo-spec = tie.close (tie.spec undo-of-requires newest-requires edited-requires same-length returns)

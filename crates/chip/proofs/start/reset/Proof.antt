@@ -10,13 +10,16 @@ reset-sound-requires c κs = search needs
 new-requires : tie.Need-new-requires
 new-requires c κs = search needs
 
+no-table-requires : tie.Need-no-table-requires
+no-table-requires c κs = search needs
+
 returns : tie.Need-returns
 unfolding resetChip
 returns c =
     record {
-      chip = simp (c .before .reset-sound .ensures, c .new .ensures .lock);
-      tracks = c .new .ensures .tracks;
+      chip = simp (c .before .before .reset-sound .ensures, c .before .new .ensures .lock, c .no-table .ensures);
+      tracks = c .before .new .ensures .tracks;
     }
 
 pub reset-spec : {M : Type 1} → statement M
-reset-spec = tie.close (tie.spec reset-sound-requires new-requires returns)
+reset-spec = tie.close (tie.spec reset-sound-requires new-requires no-table-requires returns)

@@ -1,6 +1,6 @@
 -- `reading::dcsr`: no two weights share a bit, so the sum fits.
-use borrow.Author.Needs.{needs}
 use Rattle.registers.specs.Registers.{dcsr}
+use borrow.Author.Needs.{needs}
 use Rattle.registers.proofs.reading.dcsr.Statement.{statement}
 use Rattle.registers.proofs.reading.dcsr.Tie as tie
 
@@ -16,54 +16,45 @@ array-copy-out-two c = search needs
 flag-requires : tie.Need-flag-requires
 flag-requires c κs = search needs
 
-flag-requires-2 : tie.Need-flag-requires-2
-flag-requires-2 c κs = search needs
+channel-flag-requires : tie.Need-channel-flag-requires
+channel-flag-requires c κs = search needs
 
 add-result : tie.Need-add-result
 add-result c = search needs
 
-flag-requires-3 : tie.Need-flag-requires-3
-flag-requires-3 c κs = search needs
+channel-flag-requires-2 : tie.Need-channel-flag-requires-2
+channel-flag-requires-2 c κs = search needs
 
 add-result-2 : tie.Need-add-result-2
 add-result-2 c = search needs
 
-flag-requires-4 : tie.Need-flag-requires-4
-flag-requires-4 c κs = search needs
+channel-flag-requires-3 : tie.Need-channel-flag-requires-3
+channel-flag-requires-3 c κs = search needs
 
 add-result-3 : tie.Need-add-result-3
 add-result-3 c = search needs
 
-flag-requires-5 : tie.Need-flag-requires-5
-flag-requires-5 c κs = search needs
+channel-flag-requires-4 : tie.Need-channel-flag-requires-4
+channel-flag-requires-4 c κs = search needs
 
 add-result-4 : tie.Need-add-result-4
 add-result-4 c = search needs
 
-flag-requires-6 : tie.Need-flag-requires-6
-flag-requires-6 c κs = search needs
+channel-flag-requires-5 : tie.Need-channel-flag-requires-5
+channel-flag-requires-5 c κs = search needs
 
 add-result-5 : tie.Need-add-result-5
 add-result-5 c = search needs
 
-flag-requires-7 : tie.Need-flag-requires-7
-flag-requires-7 c κs = search needs
+channel-flag-requires-6 : tie.Need-channel-flag-requires-6
+channel-flag-requires-6 c κs = search needs
 
 add-result-6 : tie.Need-add-result-6
 add-result-6 c = search needs
 
 returns : tie.Need-returns
 unfolding dcsr
-returns c =
-    simp (
-      c .before .before .before .before .before .before .flag .ensures .value,
-      c .before .before .before .before .before .flag2 .ensures .value,
-      c .before .before .before .before .flag3 .ensures .value,
-      c .before .before .before .flag4 .ensures .value,
-      c .before .before .flag5 .ensures .value,
-      c .before .flag6 .ensures .value,
-      c .flag7 .ensures .value,
-    )
+returns c = simp (c .before .before .before .before .before .before .flag .ensures .value, c .before .before .before .before .before .channel-flag .ensures .value, c .before .before .before .before .channel-flag2 .ensures .value, c .before .before .before .channel-flag3 .ensures .value, c .before .before .channel-flag4 .ensures .value, c .before .channel-flag5 .ensures .value, c .channel-flag6 .ensures .value)
 
 pub dcsr-spec : {M : Type 1} → statement M
 dcsr-spec =
@@ -73,16 +64,16 @@ dcsr-spec =
     array-copy-out-one
     array-copy-out-two
     flag-requires
-    flag-requires-2
+    channel-flag-requires
     add-result
-    flag-requires-3
+    channel-flag-requires-2
     add-result-2
-    flag-requires-4
+    channel-flag-requires-3
     add-result-3
-    flag-requires-5
+    channel-flag-requires-4
     add-result-4
-    flag-requires-6
+    channel-flag-requires-5
     add-result-5
-    flag-requires-7
+    channel-flag-requires-6
     add-result-6
     returns)
