@@ -15,6 +15,7 @@ use Rattle.chip.specs.Step.{stepAnswer}
 use Rattle.runs.specs.World.{World}
 use Rattle.runs.specs.Call.{line, servedWorld}
 use Rattle.runs.specs.Run.{Made, Run, Each, madeOver, worldOver}
+use Rattle.runs.proofs.Calls.{AllPlaces}
 use Rattle.runs.proofs.Runs.{AllWhole, run-possible}
 use Rattle.forecast.specs.Rule.{even}
 use Rattle.forecast.specs.Demand.{channel, Ready, LineStep, stepsOf, Allowed}
@@ -37,7 +38,7 @@ all-lines n ram start (a ∷ as') w lent e =
     )
 
 pub runs-exist :
-    (n : ℕ) (start : ℕ) (accesses : List Accesses) (w : World) → length (w .lent .ram) ≡ 65536 → length (w .lent .places) ≡ 256 →
+    (n : ℕ) (start : ℕ) (accesses : List Accesses) (w : World) → length (w .lent .ram) ≡ 65536 → AllPlaces w →
     (log : List Made) × Run w log (worldOver w (map line accesses)) × Each (Allowed n (w .lent .ram) start) log
     × (map (λ (s : LineStep). s .accesses) (stepsOf log) ≡ accesses)
 runs-exist n start accesses w full whole =

@@ -4,7 +4,9 @@ use mathlib.Core.List.{[]}
 use Prim.Native.Nat.{ℕ, _<_}
 use native.Mathlib.Omega.{arith}
 use Rattle.common.specs.Answers.{done}
+use Rattle.editors.specs.declared.Editor.{Editor}
 use Rattle.chip.specs.declared.Chip.{Chip}
+use Rattle.chip.specs.Editors.{started}
 use Rattle.chip.specs.Channels.{Keeps, LeftAlone, Aside}
 use Rattle.chip.proofs.ChannelLaws.{aside-self}
 use Rattle.registers.specs.declared.address.ChannelRegister.{ChannelRegister}
@@ -19,14 +21,14 @@ use Rattle.runs.specs.Call.{Call, Reply, servedWorld}
 use Rattle.runs.specs.Sort.{sortOf, lineIn}
 use Rattle.runs.specs.Run.{Makes}
 use Rattle.runs.proofs.Calls.{served-is}
-use Rattle.runs.proofs.Views.{Edits, View, feeds, writes, undoes, steps, lends, plain, view}
+use Rattle.runs.proofs.Views.{Edits, View, feeds, writes, undoes, steps, starts, lends, plain, view}
 use Rattle.forecast.specs.Demand.{channel, NotWritten, Spares}
 
 -- a page write that doesn't name the channel
 write-alone :
-    (c : Chip) (a b n : ℕ) → n < 3 → NotWritten n (channel c n) a b →
-    LeftAlone (channel c n) (channel (registerWritten c (registerAt a) b) n)
-write-alone c a b n h s = page-alone c (registerAt a) b n h own (λ e. s .enable (dcsr-address a e))
+    (c : Chip) (ed : Editor) (a b n : ℕ) → n < 3 → NotWritten n c ed a b →
+    LeftAlone (channel c n) (channel (registerWritten c ed (registerAt a) b) n)
+write-alone c ed a b n h s = page-alone c ed (registerAt a) b n h own (λ e. s .enable (dcsr-address a e))
   where
     own : (r : ChannelRegister) → registerAt a ≡ Channel n r → ⊥
     own StartLow e = s .low (omega (arith, channel-address a n StartLow e))
@@ -44,19 +46,21 @@ aside-effect : (n : ℕ) (w : World) (c : Call) → Aside (channel (w .chip) n) 
 aside-effect n w c a = record { keeps = λ e. a .keeps; alone = λ s. a .alone }
 
 -- a page write, and an undo
-module _ {w v : World} {address byte : ℕ} (n : ℕ) (h : n < 3) (e : Edits w v address byte) where
+module _ {w v : World} {ed : Editor} {address byte : ℕ} (n : ℕ) (h : n < 3) (e : Edits w v ed address byte) where
   edit-keeps : Keeps (channel (w .chip) n) (channel (v .chip) n)
-  edit-keeps = rw (e .chip) (page-leaves (w .chip) (registerAt address) byte n h)
+  edit-keeps = rw (e .chip) (page-leaves (w .chip) ed (registerAt address) byte n h)
 
-  edit-alone : NotWritten n (channel (w .chip) n) address byte → LeftAlone (channel (w .chip) n) (channel (v .chip) n)
-  edit-alone s = rw (e .chip) (write-alone (w .chip) address byte n h s)
+  edit-alone : NotWritten n (w .chip) ed address byte → LeftAlone (channel (w .chip) n) (channel (v .chip) n)
+  edit-alone s = rw (e .chip) (write-alone (w .chip) ed address byte n h s)
 
 by-view : (n : ℕ) → n < 3 → (w : World) (c : Call) → View w c → Effect n w c
+unfolding started
 by-view n h w c (feeds b l) = aside-effect n w c (l .channel n)
-by-view n h w c (writes a b e) = record { keeps = λ z. edit-keeps n h e; alone = edit-alone n h e }
-by-view n h w c (undoes e) = record { keeps = λ z. edit-keeps n h e; alone = edit-alone n h e }
+by-view n h w c (writes ed a b e) = record { keeps = λ z. edit-keeps n h e; alone = edit-alone n h e }
+by-view n h w c (undoes ed e) = record { keeps = λ z. edit-keeps n h e; alone = edit-alone n h e }
 by-view n h w c (steps a) = record { keeps = λ e. absurd (let z : _≡_ {A = ℕ} 0 1 = cc in omega arith); alone = λ s. absurd s }
-by-view n h w c (lends b) = aside-effect n w c (aside-self (channel (w .chip) n))
+by-view n h w c (starts o) = aside-effect n w c (aside-self (channel (w .chip) n))
+by-view n h w c (lends l) = aside-effect n w c (aside-self (channel (w .chip) n))
 by-view n h w c (plain s q l) = aside-effect n w c (l .channel n)
 
 pub effect : (n : ℕ) → n < 3 → (w : World) (c : Call) → Effect n w c

@@ -18,19 +18,21 @@ use Rattle.sound.specs.declared.Did.the-variants.{SatOut, Executed}
 use Rattle.sound.specs.declared.Report.{Report}
 use Rattle.sound.specs.Channels.{wordAt}
 use Rattle.sound.specs.Line.{channelOf, didOf, accessOf, ownCycles, taken}
+use Rattle.editors.specs.declared.Editor.{Editor}
 use Rattle.chip.specs.declared.Chip.{Chip}
 use Rattle.chip.specs.Channels.{LeftAlone}
 use Rattle.chip.specs.Step.{idleReport}
-use Rattle.runs.specs.World.{World}
+use Rattle.runs.specs.World.{World, placesOf}
 use Rattle.runs.specs.Call.{Told, nothing, byte, vector, report}
-use Rattle.runs.specs.Sort.{Sort, feeds, writes, undoes, stepsLine, lends, plain, onLine}
+use Rattle.runs.specs.Sort.{Sort, feeds, writes, undoes, stepsLine, starts, lends, plain, onLine}
 use Rattle.runs.specs.Run.{Made, Run, Each}
+use Rattle.registers.specs.Owners.{ownsChannel}
 use Rattle.page.specs.UndoRecord.{entryAddress, entryContents}
 use Rattle.page.specs.Undo.{newest}
 use Rattle.forecast.specs.Rule.{even, wordsOf}
 
 -- ---- the calls of a run are those of `Call` in the crate `runs`: line steps, port writes, page reads and writes, undo, acknowledges;
--- and the host may lend other buffers before each of them
+-- starts; the page calls are those of both editors, and the host may lend other buffers before each of them
 
 -- channel n of the chip
 abbrev pub channel : Chip → ℕ → Channel
@@ -49,25 +51,26 @@ pub record Ready (start prescale : ℕ) (c : Channel) : Type 0 where
 pub record Lent (ram : List ℕ) (start : ℕ) (lent : List ℕ) : Type 0 where
   pub words : (i : ℕ) → i < length (wordsOf ram start) → wordAt lent (start + i * 2) ≡ wordAt ram (start + i * 2)
 
--- ---- what a served call other than a line step must not do to channel n, the channel d before it. By its arguments:
+-- ---- what a served call other than a line step must not do to channel n of the chip before it. By its arguments:
 
--- a page write of the byte b to the address a goes neither to the channel's start address, low (6C00h + 4n) or high (+ 1), nor to its
--- prescale (+ 2); and if it goes to DCSR (6C0Fh) while the channel is enabled, bit n is set
-pub record NotWritten (n : ℕ) (d : Channel) (a b : ℕ) : Type 0 where
+-- a page write of the byte b to the address a by either editor goes neither to the channel's start address, low (6C00h + 4n) or high
+-- (+ 1), nor to its prescale (+ 2); and if the channel's owner writes to DCSR (6C0Fh) while the channel is enabled, bit n is set
+pub record NotWritten (n : ℕ) (c : Chip) (e : Editor) (a b : ℕ) : Type 0 where
   pub low : a ≡ 0x6c00 + 4 * n → ⊥
   pub high : a ≡ 0x6c00 + 4 * n + 1 → ⊥
   pub prescale : a ≡ 0x6c00 + 4 * n + 2 → ⊥
-  pub enable : a ≡ 0x6c0f → d .enabled ≡ true → bit n b ≡ true
+  pub enable : a ≡ 0x6c0f → ownsChannel (c .editing .table) e n ≡ true → channel c n .enabled ≡ true → bit n b ≡ true
 
--- an undo counts as a write of what it puts back, to the address of the newest entry; no other call can name the channel;
+-- an undo counts as a write of what it puts back, to the address of the editor's newest entry; no other call can name the channel;
 -- a line step is none of them
 abbrev pub Spares : ℕ → World → Sort → Type 0
 Spares n w (feeds b) = Unit {0}
-Spares n w (writes a b) = NotWritten n (channel (w .chip) n) a b
-Spares n w undoes =
-    let e = newest (w .chip) (w .lent .places) in NotWritten n (channel (w .chip) n) (entryAddress e) (entryContents e)
+Spares n w (writes e a b) = NotWritten n (w .chip) e a b
+Spares n w (undoes e) =
+    let entry = newest (w .chip) e (placesOf (w .lent) e) in NotWritten n (w .chip) e (entryAddress entry) (entryContents entry)
 Spares n w (stepsLine a) = ⊥
-Spares n w (lends b) = Unit {0}
+Spares n w (starts o) = Unit {0}
+Spares n w (lends l) = Unit {0}
 Spares n w plain = Unit {0}
 
 -- ---- a served line step: what the processor did at the 8255 for each channel, and the report

@@ -11,6 +11,9 @@ use denote.Ref.{RefT, now}
 use borrow.Author.Tests.{eqb-true, eq-eqb, ne-eqb}
 use Rattle.common.specs.Answers.{done, served}
 use Rattle.common.specs.Choice.{if}
+use Rattle.editors.specs.declared.Editor.{Editor}
+use Rattle.editors.specs.declared.Editor.the-variants.{Song, Picture}
+use Rattle.editors.specs.Table.{other}
 use Rattle.lock.proofs.Steps.{feeds}
 use Rattle.sound.specs.declared.Accesses.{Accesses}
 use Rattle.sound.specs.Line.{soundReport}
@@ -20,11 +23,13 @@ use Rattle.chip.specs.Contracts.{Answers}
 use Rattle.chip.specs.Ports.{selected, Selects, dataAnswer, dataWritten, gateAnswer, gateWritten}
 use Rattle.chip.specs.Interrupts.{acknowledged}
 use Rattle.chip.specs.Step.{stepAnswer, stepped, idleReport, Steps}
-use Rattle.page.specs.Page.{Writes}
-use Rattle.page.specs.Undo.{Undoes}
+use Rattle.registers.specs.Address.{registerAt}
+use Rattle.registers.specs.Registers.{storeWritten}
+use Rattle.page.specs.Page.{pageWritten, placesAfter, Writes}
+use Rattle.page.specs.Undo.{newest, undone, storeUndone, Undoes}
 use Rattle.page.proofs.Ways.{write-possible, undo-possible}
-use Rattle.runs.specs.World.{World, withChip, edited}
-use Rattle.runs.specs.Call.{Call, bc, bd, gate, read, write, undo, ack, line, lend, Reply, answerTo, servedWorld, replyTo, worldAfter}
+use Rattle.runs.specs.World.{World, placesOf, withChip, edited}
+use Rattle.runs.specs.Call.{Call, bc, bd, gate, read, write, undo, ack, line, start, lend, Reply, answerTo, servedWorld, replyTo, worldAfter}
 use Rattle.runs.specs.Run as run
 use Rattle.runs.specs.Run.{Makes}
 
@@ -45,31 +50,36 @@ chip-served n w next = go (eqb n done)
     go true = refl
     go false = refl
 
+-- the buffers as they are lent are no change
+pub unedited : (w : World) (e : Editor) → edited w e (w .chip) (w .lent .store) (placesOf (w .lent) e) ≡ w
+unedited w Song = refl
+unedited w Picture = refl
+
 pub edit-served :
-    (n : ℕ) (w : World) (next : Chip) (store places : List ℕ) →
-    edited w (served n next (w .chip)) (served n store (w .lent .store)) (served n places (w .lent .places))
-    ≡ served n (edited w next store places) w
-edit-served n w next store places = go (eqb n done)
+    (n : ℕ) (w : World) (e : Editor) (next : Chip) (store places : List ℕ) →
+    edited w e (served n next (w .chip)) (served n store (w .lent .store)) (served n places (placesOf (w .lent) e))
+    ≡ served n (edited w e next store places) w
+edit-served n w e next store places = go (eqb n done)
   where
     go :
         (t : Bool) →
-        edited w (if t next (w .chip)) (if t store (w .lent .store)) (if t places (w .lent .places))
-        ≡ if t (edited w next store places) w
+        edited w e (if t next (w .chip)) (if t store (w .lent .store)) (if t places (placesOf (w .lent) e))
+        ≡ if t (edited w e next store places) w
     go true = refl
-    go false = refl
+    go false = unedited w e
 
 pub store-served :
-    (n : ℕ) (w : World) (next : Chip) (store : List ℕ) →
-    edited w (served n next (w .chip)) (served n store (w .lent .store)) (w .lent .places)
-    ≡ served n (edited w next store (w .lent .places)) w
-store-served n w next store = go (eqb n done)
+    (n : ℕ) (w : World) (e : Editor) (next : Chip) (store : List ℕ) →
+    edited w e (served n next (w .chip)) (served n store (w .lent .store)) (placesOf (w .lent) e)
+    ≡ served n (edited w e next store (placesOf (w .lent) e)) w
+store-served n w e next store = go (eqb n done)
   where
     go :
         (t : Bool) →
-        edited w (if t next (w .chip)) (if t store (w .lent .store)) (w .lent .places)
-        ≡ if t (edited w next store (w .lent .places)) w
+        edited w e (if t next (w .chip)) (if t store (w .lent .store)) (placesOf (w .lent) e)
+        ≡ if t (edited w e next store (placesOf (w .lent) e)) w
     go true = refl
-    go false = refl
+    go false = unedited w e
 
 -- ---- the contracts fix reply and world
 pub record Fixed (w : World) (c : Call) (r : Reply) (v : World) : Type 0 where
@@ -82,21 +92,24 @@ fixed {w} (run.bd b r l) =
     record { reply-is = rw (l .answer); world-is = rw (l .chip) (chip-served (dataAnswer (w .chip)) w (dataWritten (w .chip) b)) }
 fixed {w} (run.gate b r l) =
     record { reply-is = rw (l .answer); world-is = rw (l .chip) (chip-served (gateAnswer b) w (gateWritten (w .chip) b)) }
-fixed {w} (run.read κs store a bus r s l) =
-    record { reply-is = rw (l .answer, l .byte, s); world-is = by-answer (λ v. w ≡ v) w (read a bus) (λ e. refl) refl }
-fixed {w} (run.write κs store places store' places' a b r s p l) =
-    let next = servedWorld w (write a b) in
+fixed {w} (run.read κs e store a bus r s l) =
+    record { reply-is = rw (l .answer, l .byte, s); world-is = by-answer (λ v. w ≡ v) w (read e a bus) (λ z. refl) refl }
+fixed {w} (run.write κs e store places store' places' a b r s p l) =
+    let c = w .chip in
     record {
       reply-is = rw (l .call .answer, s);
       world-is =
           rw (l .call .chip, l .store-after, l .places-after, s, p)
-          (edit-served (answerTo w (write a b)) w (next .chip) (next .lent .store) (next .lent .places));
+          (edit-served (answerTo w (write e a b)) w e (pageWritten c e (registerAt a) b) (storeWritten (w .lent .store) (registerAt a) b)
+          (placesAfter c e (w .lent .store) (placesOf (w .lent) e) a));
     }
-fixed {w} (run.undo κs store places store' r s p l) =
-    let next = servedWorld w undo in
+fixed {w} (run.undo κs e store places store' r s p l) =
+    let entry = newest (w .chip) e (placesOf (w .lent) e) in
     record {
       reply-is = rw (l .call .answer, s);
-      world-is = rw (l .call .chip, l .store-after, s, p) (store-served (answerTo w undo) w (next .chip) (next .lent .store));
+      world-is =
+          rw (l .call .chip, l .store-after, s, p)
+          (store-served (answerTo w (undo e)) w e (undone (w .chip) e entry) (storeUndone (w .lent .store) entry));
     }
 fixed {w} (run.ack r l) =
     record { reply-is = rw (l .answer, l .vector); world-is = rw (l .chip) (chip-served (answerTo w ack) w (acknowledged (w .chip))) }
@@ -105,7 +118,8 @@ fixed {w} (run.line κs ram a r s l) =
       reply-is = rw (l .answer, l .report, s);
       world-is = rw (l .chip, s) (chip-served (answerTo w (line a)) w (stepped (w .lent .ram) (w .chip)));
     }
-fixed {w} (run.lend b) = record { reply-is = refl; world-is = refl }
+fixed {w} (run.start o r l) = record { reply-is = rw (l .answer); world-is = rw (l .chip) }
+fixed {w} (run.lend l) = record { reply-is = refl; world-is = refl }
 
 -- so its answer, and the world after it where it is served and where it is refused
 pub served-answer : {w v : World} {c : Call} {r : Reply} → Makes w c r v → r .answer ≡ answerTo w c
@@ -117,21 +131,33 @@ served-is k z = fixed k .world-is ∙ simp (eq-eqb _ _ (sym (served-answer k) �
 pub refused-is : {w v : World} {c : Call} {r : Reply} → Makes w c r v → (r .answer ≡ done → ⊥) → v ≡ w
 refused-is k n = fixed k .world-is ∙ simp (ne-eqb _ _ (λ z. n (served-answer k ∙ z)))
 
+-- the places of the editor that edits, and of the other
+pub edited-places : (w : World) (e : Editor) (c : Chip) (store places : List ℕ) → placesOf (edited w e c store places .lent) e ≡ places
+edited-places w Song c store places = refl
+edited-places w Picture c store places = refl
+
+pub other-places :
+    (w : World) (e : Editor) (c : Chip) (store places : List ℕ) →
+    placesOf (edited w (other e) c store places .lent) e ≡ placesOf (w .lent) e
+other-places w Song c store places = refl
+other-places w Picture c store places = refl
+
 -- a page write's and an undo's contract, of the worlds before and after it
-pub written : {w v : World} {a b : ℕ} {r : Reply} → Makes w (write a b) r v →
-    Writes (w .chip) (w .lent .store) (w .lent .places) a b (v .lent .store) (v .lent .places)
+pub written : {w v : World} {e : Editor} {a b : ℕ} {r : Reply} → Makes w (write e a b) r v →
+    Writes (w .chip) e (w .lent .store) (placesOf (w .lent) e) a b (v .lent .store) (placesOf (v .lent) e)
     (record { answer = r .answer; chip = v .chip })
-written (run.write κs store places store' places' a b r s p l) = rw (← s, ← p) l
+written {w} (run.write κs e store places store' places' a b r s p l) = rw (edited-places w e (r .chip) store' places', ← s, ← p) l
 
-pub record Taken (w : World) (r : Reply) (v : World) : Type 0 where
+pub record Taken (w : World) (e : Editor) (r : Reply) (v : World) : Type 0 where
   pub undoes :
-      Undoes (w .chip) (w .lent .store) (w .lent .places) (v .lent .store) (record { answer = r .answer; chip = v .chip })
-  pub places-stay : v .lent .places ≡ w .lent .places
+      Undoes (w .chip) e (w .lent .store) (placesOf (w .lent) e) (v .lent .store) (record { answer = r .answer; chip = v .chip })
+  pub places-stay : placesOf (v .lent) e ≡ placesOf (w .lent) e
 
-pub taken : {w v : World} {r : Reply} → Makes w undo r v → Taken w r v
-taken (run.undo κs store places store' r s p l) = record { undoes = rw (← s, ← p) l; places-stay = refl }
+pub taken : {w v : World} {e : Editor} {r : Reply} → Makes w (undo e) r v → Taken w e r v
+taken {w} (run.undo κs e store places store' r s p l) =
+    record { undoes = rw (← s, ← p) l; places-stay = edited-places w e (r .chip) store' (placesOf (w .lent) e) }
 
--- ---- every call can be made on every world with 256 places
+-- ---- every call can be made on every world with 256 places for each editor
 
 -- a buffer as it is lent, and a lifetime
 abbrev pub lending : List ℕ → RefT (List ℕ)
@@ -170,33 +196,37 @@ record Way (w : World) (c : Call) : Type 0 where
   after : World
   made : Makes w c reply after
 
-way : (w : World) (c : Call) → length (w .lent .places) ≡ 256 → Way w c
+-- 256 places of each editor's record are lent
+abbrev pub AllPlaces : World → Type 0
+AllPlaces w = (e : Editor) → length (placesOf (w .lent) e) ≡ 256
+
+way : (w : World) (c : Call) → AllPlaces w → Way w c
 way w (bc b) h = record { reply = _; after = _; made = run.bc b _ (selects (w .chip) b) }
 way w (bd b) h = record { reply = _; after = _; made = run.bd b _ (answers _ _ (w .chip)) }
 way w (gate b) h = record { reply = _; after = _; made = run.gate b _ (answers _ _ (w .chip)) }
-way w (read a bus) h =
+way w (read e a bus) h =
     record {
       reply = _;
       after = _;
       made =
-          run.read lifetime (lending (w .lent .store)) a bus (record { answer = _; byte = _ }) refl
+          run.read lifetime e (lending (w .lent .store)) a bus (record { answer = _; byte = _ }) refl
           (record { answer = refl; byte = refl });
     }
-way w (write a b) h =
+way w (write e a b) h =
     record {
       reply = _;
       after = _;
       made =
-          run.write lifetimes (lending (w .lent .store)) (lending (w .lent .places)) _ _ a b _ refl refl
-          (write-possible (w .chip) (w .lent .store) (w .lent .places) a b h);
+          run.write lifetimes e (lending (w .lent .store)) (lending (placesOf (w .lent) e)) _ _ a b _ refl refl
+          (write-possible (w .chip) e (w .lent .store) (placesOf (w .lent) e) a b (h e));
     }
-way w undo h =
+way w (undo e) h =
     record {
       reply = _;
       after = _;
       made =
-          run.undo lifetimes (lending (w .lent .store)) (lending (w .lent .places)) _ _ refl refl
-          (undo-possible (w .chip) (w .lent .store) (w .lent .places));
+          run.undo lifetimes e (lending (w .lent .store)) (lending (placesOf (w .lent) e)) _ _ refl refl
+          (undo-possible (w .chip) e (w .lent .store) (placesOf (w .lent) e));
     }
 way w ack h =
     record {
@@ -206,9 +236,10 @@ way w ack h =
     }
 way w (line a) h =
     record { reply = _; after = _; made = run.line lifetime (lending (w .lent .ram)) a _ refl (steps (w .lent .ram) a (w .chip)) }
-way w (lend b) h = record { reply = _; after = _; made = run.lend b }
+way w (start o) h = record { reply = _; after = _; made = run.start o _ (answers _ _ (w .chip)) }
+way w (lend l) h = record { reply = _; after = _; made = run.lend l }
 
-pub possible : (w : World) (c : Call) → length (w .lent .places) ≡ 256 → Makes w c (replyTo w c) (worldAfter w c)
+pub possible : (w : World) (c : Call) → AllPlaces w → Makes w c (replyTo w c) (worldAfter w c)
 possible w c h =
     let k = way w c h in
     rw (fixed (k .made) .reply-is, fixed (k .made) .world-is) at (k .made)

@@ -5,7 +5,9 @@ use Prim.Native.Nat.{ℕ}
 use Rattle.lock.specs.History.{unlockedBy}
 use Rattle.lock.specs.Machine.{Tracks}
 use Rattle.lock.proofs.Steps.{feeds as fed-lock}
+use Rattle.editors.specs.declared.Editor.{Editor}
 use Rattle.chip.specs.declared.Chip.{Chip}
+use Rattle.chip.specs.Editors.{started}
 use Rattle.chip.specs.Ports.{selected}
 use Rattle.chip.specs.Step.{stepped as steppedChip, countersStepped}
 use Rattle.registers.specs.declared.address.Register.{Register}
@@ -18,34 +20,35 @@ use Rattle.runs.specs.Sort.{sortOf}
 use Rattle.runs.specs.Run.{Made, Run, ended, on}
 use Rattle.runs.specs.Reached.{Reached, fedBy, fedOver}
 use Rattle.runs.proofs.Calls.{by-answer, fixed}
-use Rattle.runs.proofs.Views.{Edits, View, feeds, writes, undoes, steps, lends, plain, view}
+use Rattle.runs.proofs.Views.{Edits, View, feeds, writes, undoes, steps, starts, lends, plain, view}
 
 -- no page write touches the lock
-page-lock : (c : Chip) (x : Register) (b : ℕ) → registerWritten c x b .lock ≡ c .lock
-page-lock c (Pixel i) b = refl
-page-lock c (Sprite n p) b = refl
-page-lock c (Palette i) b = refl
-page-lock c (Video v) b = refl
-page-lock c Ivr b = refl
-page-lock c Converter b = refl
-page-lock c (Channel n r) b = refl
-page-lock c Dcsr b = refl
-page-lock c Status b = refl
-page-lock c Empty b = refl
+page-lock : (c : Chip) (ed : Editor) (x : Register) (b : ℕ) → registerWritten c ed x b .lock ≡ c .lock
+page-lock c ed (Pixel i) b = refl
+page-lock c ed (Sprite n p) b = refl
+page-lock c ed (Palette i) b = refl
+page-lock c ed (Video v) b = refl
+page-lock c ed Ivr b = refl
+page-lock c ed Converter b = refl
+page-lock c ed (Channel n r) b = refl
+page-lock c ed Dcsr b = refl
+page-lock c ed Status b = refl
+page-lock c ed Empty b = refl
 
 -- an edit
-edit-lock : {w v : World} {address byte : ℕ} → Edits w v address byte → v .chip .lock ≡ w .chip .lock
-edit-lock {w} {v} {address} {byte} e = rw (e .chip) (page-lock (w .chip) (registerAt address) byte)
+edit-lock : {w v : World} {ed : Editor} {address byte : ℕ} → Edits w v ed address byte → v .chip .lock ≡ w .chip .lock
+edit-lock {w} {ed = ed} {address = address} {byte = byte} e = rw (e .chip) (page-lock (w .chip) ed (registerAt address) byte)
 
 -- the lock goes on by the byte of a BCxx write, which is always served, and no other call touches it
 call-tracks :
     (w : World) (c : Call) → View w c → (h : List ℕ) → Tracks h (w .chip .lock) → Tracks (fedBy (sortOf c) h) (worldAfter w c .chip .lock)
-unfolding selected steppedChip countersStepped
+unfolding selected steppedChip countersStepped started
 call-tracks w c (feeds b l) h t = fed-lock (w .chip .lock) b _ refl .tracks h t
-call-tracks w c (writes a b e) h t = by-answer (λ v. Tracks h (v .chip .lock)) w c (λ z. rw (edit-lock e) t) t
-call-tracks w c (undoes e) h t = by-answer (λ v. Tracks h (v .chip .lock)) w c (λ z. rw (edit-lock e) t) t
+call-tracks w c (writes ed a b e) h t = by-answer (λ v. Tracks h (v .chip .lock)) w c (λ z. rw (edit-lock e) t) t
+call-tracks w c (undoes ed e) h t = by-answer (λ v. Tracks h (v .chip .lock)) w c (λ z. rw (edit-lock e) t) t
 call-tracks w c (steps a) h t = by-answer (λ v. Tracks h (v .chip .lock)) w c (λ z. t) t
-call-tracks w c (lends b) h t = t
+call-tracks w c (starts o) h t = t
+call-tracks w c (lends l) h t = t
 call-tracks w c (plain s q l) h t = rw s (by-answer (λ v. Tracks h (v .chip .lock)) w c (λ z. rw q t) t)
 
 run-tracks : {w v : World} {es : List Made} (h : List ℕ) → Run w es v → Tracks h (w .chip .lock) → Tracks (fedOver es h) (v .chip .lock)

@@ -5,35 +5,39 @@ use Prim.Native.Nat.{ℕ, _<_}
 use lib.Dec.{eqb, leb, ltb}
 use lib.ListN.{length}
 use Rattle.common.specs.Choice.{if, both}
+use Rattle.editors.specs.declared.Editor.{Editor}
+use Rattle.editors.specs.declared.Table.{Table}
 use Rattle.crtc.specs.Registers.{hasRegister}
 use Rattle.chip.specs.declared.Chip.{Chip}
+use Rattle.chip.specs.Editors.{undoOf}
 use Rattle.chip.specs.Ports.{dataAnswer, gateAnswer, gateServed}
 use Rattle.chip.specs.Interrupts.{acknowledgeAnswer, sourceOn, nobody}
 use Rattle.chip.specs.Step.{stepAnswer}
 use Rattle.registers.specs.declared.address.Register.{Register}
 use Rattle.registers.specs.declared.address.Register.the-variants.{Pixel, Sprite, Palette, Video, Ivr, Converter, Channel, Dcsr, Status, Empty}
 use Rattle.registers.specs.Address.{registerAt}
+use Rattle.registers.specs.Owners.{owns}
 use Rattle.registers.specs.Registers.{registerAnswer}
 use Rattle.page.specs.Page.{pageAnswer, readAnswer, writeAnswer}
 use Rattle.page.specs.Undo.{undoAnswer}
 use Rattle.runs.specs.World.{World}
-use Rattle.runs.specs.Call.{Call, bc, bd, gate, read, write, undo, ack, line, lend, answerTo}
+use Rattle.runs.specs.Call.{Call, bc, bd, gate, read, write, undo, ack, line, start, lend, answerTo}
 
 either-small : (t : Bool) {m n : ℕ} → m < 24 → n < 24 → if t m n < 24
 either-small true h i = h
 either-small false h i = i
 
-register-small : (x : Register) → registerAnswer x < 24
-register-small (Pixel i) = omega arith
-register-small (Sprite n p) = omega arith
-register-small (Palette i) = omega arith
-register-small (Video v) = omega arith
-register-small Ivr = omega arith
-register-small Converter = omega arith
-register-small (Channel n r) = omega arith
-register-small Dcsr = omega arith
-register-small Status = omega arith
-register-small Empty = omega arith
+register-small : (t : Table) (ed : Editor) (x : Register) → registerAnswer t ed x < 24
+register-small t ed (Pixel i) = either-small (owns t ed (Pixel i)) (omega arith) (omega arith)
+register-small t ed (Sprite n p) = either-small (owns t ed (Sprite n p)) (omega arith) (omega arith)
+register-small t ed (Palette i) = either-small (owns t ed (Palette i)) (omega arith) (omega arith)
+register-small t ed (Video v) = either-small (owns t ed (Video v)) (omega arith) (omega arith)
+register-small t ed Ivr = either-small (owns t ed Ivr) (omega arith) (omega arith)
+register-small t ed Converter = omega arith
+register-small t ed (Channel n r) = either-small (owns t ed (Channel n r)) (omega arith) (omega arith)
+register-small t ed Dcsr = omega arith
+register-small t ed Status = omega arith
+register-small t ed Empty = omega arith
 
 page-small : (c : Chip) (size a rest : ℕ) → rest < 24 → pageAnswer c size a rest < 24
 unfolding pageAnswer
@@ -47,12 +51,14 @@ unfolding dataAnswer gateAnswer readAnswer writeAnswer undoAnswer acknowledgeAns
 answer-small w (bc b) = omega arith
 answer-small w (bd b) = either-small (hasRegister (w .chip .crtc .selected)) (omega arith) (omega arith)
 answer-small w (gate b) = either-small (gateServed b) (omega arith) (omega arith)
-answer-small w (read a bus) = page-small (w .chip) (length (w .lent .store)) a 0 (omega arith)
-answer-small w (write a b) =
-    page-small (w .chip) (length (w .lent .store)) a (registerAnswer (registerAt a)) (register-small (registerAt a))
-answer-small w undo =
+answer-small w (read e a bus) = page-small (w .chip) (length (w .lent .store)) a 0 (omega arith)
+answer-small w (write e a b) =
+    let t = w .chip .editing .table in
+    page-small (w .chip) (length (w .lent .store)) a (registerAnswer t e (registerAt a)) (register-small t e (registerAt a))
+answer-small w (undo e) =
     either-small (eqb (length (w .lent .store)) 4096)
-    (either-small (eqb (w .chip .editing .undo .count) 0) (omega arith) (omega arith)) (omega arith)
+    (either-small (eqb (undoOf (w .chip .editing) e .count) 0) (omega arith) (omega arith)) (omega arith)
 answer-small w ack = either-small (eqb (sourceOn (w .chip)) nobody) (omega arith) (omega arith)
 answer-small w (line a) = either-small (eqb (length (w .lent .ram)) 65536) (omega arith) (omega arith)
-answer-small w (lend b) = omega arith
+answer-small w (start o) = omega arith
+answer-small w (lend l) = omega arith

@@ -2,18 +2,22 @@
 use mathlib.Core.Path.{_≡_, refl, ap, _∙_}
 use mathlib.Core.List.{List, [], _∷_}
 use mathlib.Core.Bool.{Bool, true, false}
-use Prim.Native.Nat.{_%_}
+use Prim.Native.Nat.{ℕ, _%_}
 use lib.ListN.{length, set, length-set}
 use Rattle.common.specs.Choice.{if}
+use Rattle.editors.specs.declared.Editor.{Editor}
+use Rattle.editors.specs.declared.Editor.the-variants.{Song, Picture}
+use Rattle.chip.specs.declared.Chip.{Chip}
+use Rattle.chip.specs.Editors.{undoOf}
 use Rattle.registers.specs.Address.{registerAt}
 use Rattle.page.specs.UndoRecord.{isKept, entryAt}
 use Rattle.page.specs.Page.{placesAfter}
-use Rattle.runs.specs.World.{World}
+use Rattle.runs.specs.World.{World, placesOf, edited, Loan, lentRam, lentStore, lentPlaces, lentBy}
 use Rattle.runs.specs.Call.{Call, servedWorld, replyTo, worldAfter}
 use Rattle.runs.specs.Sort.{onLend}
 use Rattle.runs.specs.Run.{Made, Run, ended, on, callsOf, Each, madeOver, worldOver}
-use Rattle.runs.proofs.Calls.{by-answer, fixed, possible}
-use Rattle.runs.proofs.Views.{View, feeds, writes, undoes, steps, lends, plain, view}
+use Rattle.runs.proofs.Calls.{by-answer, fixed, AllPlaces, possible}
+use Rattle.runs.proofs.Views.{View, feeds, writes, undoes, steps, starts, lends, plain, view}
 
 -- a claim that each call hands on, where so much is asked of each
 pub handed-on :
@@ -44,33 +48,53 @@ pub calls-over : (cs : List Call) (w : World) → callsOf (madeOver w cs) ≡ cs
 calls-over [] w = refl
 calls-over (c ∷ cs) w = ap (λ (x : List Call). c ∷ x) (calls-over cs (worldAfter w c))
 
--- 256 places are lent, and any others that are lent on the way are 256
+-- places that are lent on the way are 256
+abbrev pub WholeLoan : Loan → Type 0
+WholeLoan (lentRam l) = Unit {0}
+WholeLoan (lentStore l) = Unit {0}
+WholeLoan (lentPlaces e l) = length l ≡ 256
+
 abbrev pub Whole : Call → Type 0
-Whole c = onLend (λ b. length (b .places) ≡ 256) (Unit {0}) c
+Whole c = onLend WholeLoan (Unit {0}) c
 
 abbrev pub AllWhole : List Call → Type 0
 AllWhole [] = Unit {0}
 AllWhole (c ∷ cs) = Whole c × AllWhole cs
 
-served-whole : (w : World) (c : Call) → View w c → Whole c → length (w .lent .places) ≡ 256 → length (servedWorld w c .lent .places) ≡ 256
+-- one editor's places replaced
+edit-whole : (w : World) (ed : Editor) (c : Chip) (store places : List ℕ) → length places ≡ 256 → AllPlaces w → AllPlaces (edited w ed c store places)
+edit-whole w Song c store places h k Song = h
+edit-whole w Song c store places h k Picture = k Picture
+edit-whole w Picture c store places h k Song = k Song
+edit-whole w Picture c store places h k Picture = h
+
+loan-whole : (w : World) (l : Loan) → WholeLoan l → AllPlaces w → AllPlaces (record { chip = w .chip; lent = lentBy l (w .lent) })
+loan-whole w (lentRam l) h k = λ e. k e
+loan-whole w (lentStore l) h k = λ e. k e
+loan-whole w (lentPlaces e l) h k = edit-whole w e (w .chip) (w .lent .store) l h k
+
+served-whole : (w : World) (c : Call) → View w c → Whole c → AllPlaces w → AllPlaces (servedWorld w c)
 unfolding placesAfter
 served-whole w c (feeds b l) h k = k
-served-whole w c (writes a b e) h k = go (isKept (registerAt a))
+served-whole w c (writes ed a b e) h k = edit-whole w ed (w .chip) (w .lent .store) _ (go (isKept (registerAt a))) k
   where
     go :
         (t : Bool) →
-        length (if t (set (w .lent .places) (w .chip .editing .undo .next % 256) (entryAt (w .chip) (w .lent .store) a)) (w .lent .places)) ≡ 256
-    go true = simp length-set k
-    go false = k
-served-whole w c (undoes e) h k = k
+        length
+        (if t (set (placesOf (w .lent) ed) (undoOf (w .chip .editing) ed .next % 256) (entryAt (w .chip) (w .lent .store) a)) (placesOf (w .lent) ed))
+        ≡ 256
+    go true = simp length-set (k ed)
+    go false = k ed
+served-whole w c (undoes ed e) h k = edit-whole w ed (w .chip) (w .lent .store) _ (k ed) k
 served-whole w c (steps a) h k = k
-served-whole w c (lends b) h k = h
-served-whole w c (plain s q l) h k = rw (l .lent) k
+served-whole w c (starts o) h k = k
+served-whole w c (lends l) h k = loan-whole w l h k
+served-whole w c (plain s q l) h k = λ e. rw (l .lent) (k e)
 
-whole-kept : (w : World) (c : Call) → Whole c → length (w .lent .places) ≡ 256 → length (worldAfter w c .lent .places) ≡ 256
-whole-kept w c h l = by-answer (λ v. length (v .lent .places) ≡ 256) w c (λ z. served-whole w c (view w c) h l) l
+pub whole-kept : (w : World) (c : Call) → Whole c → AllPlaces w → AllPlaces (worldAfter w c)
+whole-kept w c h l = by-answer AllPlaces w c (λ z. served-whole w c (view w c) h l) l
 
 -- every list of calls has a run
-pub run-possible : (cs : List Call) (w : World) → length (w .lent .places) ≡ 256 → AllWhole cs → Run w (madeOver w cs) (worldOver w cs)
+pub run-possible : (cs : List Call) (w : World) → AllPlaces w → AllWhole cs → Run w (madeOver w cs) (worldOver w cs)
 run-possible [] w l h = ended
 run-possible (c ∷ cs) w l h = on (possible w c l) (run-possible cs (worldAfter w c) (whole-kept w c (h .0) l) (h .1))

@@ -10,11 +10,14 @@ use lib.ListN.{length, take}
 use Rattle.common.specs.Answers.{done}
 use Rattle.common.specs.Choice.{if}
 use Rattle.common.proofs.Lists.{after-set}
+use Rattle.editors.specs.declared.Editor.{Editor}
+use Rattle.ring.specs.declared.Undo.{Undo}
 use Rattle.ring.specs.Ring.{entries, recordOf, head, popped}
 use Rattle.sound.specs.declared.Channel.{Channel}
 use Rattle.sound.specs.Line.{channelOf, offChannel}
 use Rattle.chip.specs.declared.Chip.{Chip}
-use Rattle.chip.specs.State.{withUndo}
+use Rattle.chip.specs.State.{withEditing}
+use Rattle.chip.specs.Editors.{undoOf, editingWith}
 use Rattle.registers.specs.declared.address.ChannelRegister.{ChannelRegister}
 use Rattle.registers.specs.declared.address.ChannelRegister.the-variants.{StartLow, StartHigh, Prescale}
 use Rattle.registers.specs.declared.address.Register.{Register}
@@ -31,7 +34,7 @@ use Rattle.page.specs.UndoRecord.{isKept, entryAt, recordIn}
 use Rattle.page.specs.Page.{recordAfter}
 use Rattle.page.specs.Undo.{undoAnswer, newest, undone}
 use Rattle.page.proofs.UndoLaws.{unrecorded, entry-register, entry-contents, served-register, chip-again, store-again}
-use Rattle.runs.specs.World.{World, edited}
+use Rattle.runs.specs.World.{World, placesOf, edited}
 use Rattle.runs.specs.Call.{write, undo, Reply}
 use Rattle.runs.specs.Run.{Made, Makes}
 use Rattle.runs.specs.Trace.{lentOn, Snapshot, Trace, ChannelStays, Restored, TakesBack}
@@ -43,6 +46,7 @@ use Rattle.runs.proofs.Traces.{Known, Knows, knows}
 
 record Stays (c d : Chip) : Type 0 where
   lock : d .lock ≡ c .lock
+  table : d .editing .table ≡ c .editing .table
   gate : d .gate ≡ c .gate
   crtc : d .crtc ≡ c .crtc
   psg : d .sound .psg ≡ c .sound .psg
@@ -70,11 +74,12 @@ channel-moved d StartHigh b = moved d
 channel-moved d Prescale b = moved d
 
 -- a chip whose sound is as it was
-quiet : (c d : Chip) → d .lock ≡ c .lock → d .gate ≡ c .gate → d .crtc ≡ c .crtc → d .sound ≡ c .sound →
+quiet : (c d : Chip) → d .lock ≡ c .lock → d .editing ≡ c .editing → d .gate ≡ c .gate → d .crtc ≡ c .crtc → d .sound ≡ c .sound →
     d .interrupts .raster ≡ c .interrupts .raster → d .interrupts .«last_raster» ≡ c .interrupts .«last_raster» → Stays c d
-quiet c d l g k s r q =
+quiet c d l m g k s r q =
     record {
       lock = l;
+      table = rw m;
       gate = g;
       crtc = k;
       psg = rw s;
@@ -83,16 +88,17 @@ quiet c d l g k s r q =
       channel = λ n. rw s (moved (channelOf (c .sound .channels) n));
     }
 
-write-stays : (c : Chip) (x : Register) (b : ℕ) → isKept x ≡ true → Stays c (registerWritten c x b)
-write-stays c (Pixel i) b k = quiet c c refl refl refl refl refl refl
-write-stays c (Sprite n p) b k = quiet c (registerWritten c (Sprite n p) b) refl refl refl refl refl refl
-write-stays c (Palette i) b k = quiet c (registerWritten c (Palette i) b) refl refl refl refl refl refl
-write-stays c (Video v) b k = quiet c (registerWritten c (Video v) b) refl refl refl refl refl refl
-write-stays c Ivr b k = quiet c (registerWritten c Ivr b) refl refl refl refl refl refl
-write-stays c Converter b k = quiet c c refl refl refl refl refl refl
-write-stays c (ChannelAt n r) b k =
+write-stays : (c : Chip) (ed : Editor) (x : Register) (b : ℕ) → isKept x ≡ true → Stays c (registerWritten c ed x b)
+write-stays c ed (Pixel i) b k = quiet c c refl refl refl refl refl refl refl
+write-stays c ed (Sprite n p) b k = quiet c (registerWritten c ed (Sprite n p) b) refl refl refl refl refl refl refl
+write-stays c ed (Palette i) b k = quiet c (registerWritten c ed (Palette i) b) refl refl refl refl refl refl refl
+write-stays c ed (Video v) b k = quiet c (registerWritten c ed (Video v) b) refl refl refl refl refl refl refl
+write-stays c ed Ivr b k = quiet c (registerWritten c ed Ivr b) refl refl refl refl refl refl refl
+write-stays c ed Converter b k = quiet c c refl refl refl refl refl refl refl
+write-stays c ed (ChannelAt n r) b k =
     record {
       lock = refl;
+      table = refl;
       gate = refl;
       crtc = refl;
       psg = refl;
@@ -104,29 +110,30 @@ write-stays c (ChannelAt n r) b k =
           (moved (channelOf (c .sound .channels) m))
           (λ e. rw e (channel-moved (channelOf (c .sound .channels) n) r b));
     }
-write-stays c Dcsr b k = absurd (let z : _≡_ {A = ℕ} 0 1 = cc in omega arith)
-write-stays c Status b k = quiet c c refl refl refl refl refl refl
-write-stays c Empty b k = quiet c c refl refl refl refl refl refl
+write-stays c ed Dcsr b k = absurd (let z : _≡_ {A = ℕ} 0 1 = cc in omega arith)
+write-stays c ed Status b k = quiet c c refl refl refl refl refl refl refl
+write-stays c ed Empty b k = quiet c c refl refl refl refl refl refl refl
 
 -- ---- an undo
 
 -- served, it had a store of the right length, and something to take back
-undo-served : (c : Chip) (size : ℕ) → undoAnswer c size ≡ done → (size ≡ 4096) × (c .editing .undo .count ≡ 0 → ⊥)
+undo-served : (c : Chip) (ed : Editor) (size : ℕ) → undoAnswer c ed size ≡ done → (size ≡ 4096) × (undoOf (c .editing) ed .count ≡ 0 → ⊥)
 unfolding undoAnswer
-undo-served c size h = go (eqb size 4096) refl (eqb (c .editing .undo .count) 0) refl h
+undo-served c ed size h = go (eqb size 4096) refl (eqb (undoOf (c .editing) ed .count) 0) refl h
   where
     go :
-        (s : Bool) → eqb size 4096 ≡ s → (t : Bool) → eqb (c .editing .undo .count) 0 ≡ t → _≡_ {A = ℕ} (if s (if t 10 0) 1) 0 →
-        (size ≡ 4096) × (c .editing .undo .count ≡ 0 → ⊥)
+        (s : Bool) → eqb size 4096 ≡ s → (t : Bool) → eqb (undoOf (c .editing) ed .count) 0 ≡ t → _≡_ {A = ℕ} (if s (if t 10 0) 1) 0 →
+        (size ≡ 4096) × (undoOf (c .editing) ed .count ≡ 0 → ⊥)
     go true e true f k = absurd (omega arith)
     go true e false f k = (eqb-true _ _ e, eqb-false _ _ f)
     go false e t f k = absurd (omega arith)
 
--- DCSR reads as it did
-dcsr-stays : (c d : Chip) → Stays c d → dcsr d ≡ dcsr c
+-- DCSR reads as it did, to either editor
+dcsr-stays : (c d : Chip) (reader : Editor) → Stays c d → dcsr d reader ≡ dcsr c reader
 unfolding dcsr
-dcsr-stays c d s =
+dcsr-stays c d reader s =
     rw (
+      s .table,
       s .last-raster,
       s .channel 0 .interrupt,
       s .channel 1 .interrupt,
@@ -136,8 +143,8 @@ dcsr-stays c d s =
       s .channel 0 .enabled,
     )
 
-module _ {w v : World} {r : Reply} {m : Snapshot} {ms : List Snapshot} (s : Knows (w .chip) (lentOn w) (m ∷ ms))
-    (k : Makes w undo r v) (z : r .answer ≡ done) where
+module _ {ed : Editor} {w v : World} {r : Reply} {m : Snapshot} {ms : List Snapshot} (s : Knows ed (w .chip) (lentOn w ed) (m ∷ ms))
+    (k : Makes w (undo ed) r v) (z : r .answer ≡ done) where
   x : Register
   x = registerAt (m .address)
 
@@ -151,8 +158,12 @@ module _ {w v : World} {r : Reply} {m : Snapshot} {ms : List Snapshot} (s : Know
   unfolding value known
   byte = contents-small (m .before .chip) (m .before .lent .store) (known .widths) (known .bytes) x
 
+  -- the chip after it, with this record
+  abbrev next : Undo → Chip
+  next u = withEditing (registerWritten (w .chip) ed x value) (editingWith (w .chip .editing) ed u)
+
   -- the world after it
-  after-is : v ≡ edited w (withUndo (registerWritten (w .chip) x value) (popped (w .chip .editing .undo))) (storePut (w .lent .store) x value) (w .lent .places)
+  after-is : v ≡ edited w ed (next (popped (undoOf (w .chip .editing) ed))) (storePut (w .lent .store) x value) (placesOf (w .lent) ed)
   unfolding undone x value known
   after-is =
       served-is k z
@@ -165,25 +176,26 @@ module _ {w v : World} {r : Reply} {m : Snapshot} {ms : List Snapshot} (s : Know
   restored : Restored m w (v .chip) (v .lent .store)
   unfolding x value known
   restored =
-      let size = undo-served (w .chip) (length (w .lent .store)) (sym (served-answer k) ∙ z) .0 in
+      let size = undo-served (w .chip) ed (length (w .lent .store)) (sym (served-answer k) ∙ z) .0 in
       rw after-is
       (record {
         own =
-            unrecorded (registerWritten (w .chip) x value) (popped (w .chip .editing .undo)) (storePut (w .lent .store) x value) x
-            ∙ put-contents (w .chip) (m .before .chip) (w .lent .store) (m .before .lent .store) x (s .widths) size byte (known .holds);
+            unrecorded (registerWritten (w .chip) ed x value) (editingWith (w .chip .editing) ed (popped (undoOf (w .chip .editing) ed))) (storePut (w .lent .store) x value) x
+            ∙ put-contents (w .chip) (m .before .chip) ed (w .lent .store) (m .before .lent .store) x (s .widths) size byte (known .holds);
         others =
             λ y apart.
-            unrecorded (registerWritten (w .chip) x value) (popped (w .chip .editing .undo)) (storePut (w .lent .store) x value) y
-            ∙ other-stays (w .chip) (w .lent .store) (s .widths) x value value byte y apart;
+            unrecorded (registerWritten (w .chip) ed x value) (editingWith (w .chip .editing) ed (popped (undoOf (w .chip .editing) ed))) (storePut (w .lent .store) x value) y
+            ∙ other-stays (w .chip) ed (w .lent .store) (s .widths) x value value byte y apart;
       })
 
   stays : Stays (w .chip) (v .chip)
   unfolding x value known
   stays =
-      let t : Stays (w .chip) (registerWritten (w .chip) x value) = write-stays (w .chip) x value (known .kept) in
+      let t : Stays (w .chip) (registerWritten (w .chip) ed x value) = write-stays (w .chip) ed x value (known .kept) in
       rw after-is
       (record {
         lock = t .lock;
+        table = refl;
         gate = t .gate;
         crtc = t .crtc;
         psg = t .psg;
@@ -193,18 +205,18 @@ module _ {w v : World} {r : Reply} {m : Snapshot} {ms : List Snapshot} (s : Know
       })
 
   after-widths : Widths (v .chip)
-  after-widths = rw (fixed k .world-is) (call-widths w undo tt (s .widths))
+  after-widths = rw (fixed k .world-is) (call-widths w (undo ed) tt (s .widths))
 
   others-read :
-      (y : Register) (bus : ℕ) → (y ≡ registerAt (m .address) → showsDcsr y ≡ true) →
-      registerRead (v .chip) (v .lent .store) y bus ≡ registerRead (w .chip) (w .lent .store) y bus
-  others-read y bus apart = go (showsDcsr y) refl
+      (reader : Editor) (y : Register) (bus : ℕ) → (y ≡ registerAt (m .address) → showsDcsr y ≡ true) →
+      registerRead (v .chip) reader (v .lent .store) y bus ≡ registerRead (w .chip) reader (w .lent .store) y bus
+  others-read reader y bus apart = go (showsDcsr y) refl
     where
-      go : (t : Bool) → showsDcsr y ≡ t → registerRead (v .chip) (v .lent .store) y bus ≡ registerRead (w .chip) (w .lent .store) y bus
-      go true e = same-dcsr (v .chip) (w .chip) (v .lent .store) (w .lent .store) after-widths (s .widths) y bus (dcsr-stays _ _ stays) e
+      go : (t : Bool) → showsDcsr y ≡ t → registerRead (v .chip) reader (v .lent .store) y bus ≡ registerRead (w .chip) reader (w .lent .store) y bus
+      go true e = same-dcsr (v .chip) (w .chip) reader (v .lent .store) (w .lent .store) after-widths (s .widths) y bus (dcsr-stays _ _ reader stays) e
       go false e =
           let no-own : y ≡ registerAt (m .address) → ⊥ = λ q. let p : true ≡ false = sym (apart q) ∙ e in absurd (let z : _≡_ {A = ℕ} 0 1 = cc in omega arith) in
-          same-own (v .chip) (w .chip) (v .lent .store) (w .lent .store) after-widths (s .widths) y bus e (restored .others y no-own)
+          same-own (v .chip) (w .chip) reader (v .lent .store) (w .lent .store) after-widths (s .widths) y bus e (restored .others y no-own)
 
   one-undo : TakesBack m w v
   unfolding known
@@ -212,11 +224,12 @@ module _ {w v : World} {r : Reply} {m : Snapshot} {ms : List Snapshot} (s : Know
       record {
         restored = restored;
         reads-own =
-            λ bus e.
-            same-own (v .chip) (m .before .chip) (v .lent .store) (m .before .lent .store) after-widths (known .widths)
+            λ reader bus e.
+            same-own (v .chip) (m .before .chip) reader (v .lent .store) (m .before .lent .store) after-widths (known .widths)
             (registerAt (m .address)) bus e (restored .own);
         reads-others = others-read;
         lock = stays .lock;
+        table = stays .table;
         gate-array = stays .gate;
         crtc = stays .crtc;
         psg = stays .psg;
@@ -225,10 +238,10 @@ module _ {w v : World} {r : Reply} {m : Snapshot} {ms : List Snapshot} (s : Know
         channel = stays .channel;
       }
 
--- each undo of a run takes back the write of the newest snapshot left
+-- each undo of an editor's takes back the write of its newest snapshot left
 pub takes-back :
-    {start w v : World} {log : List Made} {m : Snapshot} {ms : List Snapshot} {r : Reply} → Trace start log w (m ∷ ms) →
-    Makes w undo r v → r .answer ≡ done → TakesBack m w v
+    {ed : Editor} {start w v : World} {log : List Made} {m : Snapshot} {ms : List Snapshot} {r : Reply} → Trace ed start log w (m ∷ ms) →
+    Makes w (undo ed) r v → r .answer ≡ done → TakesBack m w v
 takes-back s k z = one-undo (knows s) k z
 
 -- with none left nothing is undone
@@ -238,30 +251,32 @@ empty-record places next zero e = refl
 empty-record places next (suc n) e = absurd (let q : _≡_ {A = ℕ} 0 1 = cc in omega arith)
 
 pub none-left :
-    {start w v : World} {log : List Made} {r : Reply} → Trace start log w [] → Makes w undo r v → r .answer ≡ done → ⊥
+    {ed : Editor} {start w v : World} {log : List Made} {r : Reply} → Trace ed start log w [] → Makes w (undo ed) r v → r .answer ≡ done → ⊥
 unfolding recordOf
-none-left {w = w} s k z =
-    undo-served (w .chip) (length (w .lent .store)) (sym (served-answer k) ∙ z) .1
-    (empty-record (w .lent .places) (w .chip .editing .undo .next) (w .chip .editing .undo .count) (knows s .tells))
+none-left {ed} {w = w} s k z =
+    let u = undoOf (w .chip .editing) ed in
+    undo-served (w .chip) ed (length (w .lent .store)) (sym (served-answer k) ∙ z) .1
+    (empty-record (placesOf (w .lent) ed) (u .next) (u .count) (knows s .tells))
 
 -- with nothing in between, a kept write and its undo leave chip and store as they were, but for the record
 pub at-once :
-    {start w v u : World} {log : List Made} {ms : List Snapshot} {r q : Reply} (a b : ℕ) → Trace start log w ms →
-    a < 65536 → b < 256 → Makes w (write a b) r v → r .answer ≡ done → isKept (registerAt a) ≡ true →
-    Makes v undo q u → q .answer ≡ done →
-    (withUndo (u .chip) (w .chip .editing .undo) ≡ w .chip) × (u .lent .store ≡ w .lent .store)
+    {ed : Editor} {start w v u : World} {log : List Made} {ms : List Snapshot} {r q : Reply} (a b : ℕ) → Trace ed start log w ms →
+    a < 65536 → b < 256 → Makes w (write ed a b) r v → r .answer ≡ done → isKept (registerAt a) ≡ true →
+    Makes v (undo ed) q u → q .answer ≡ done →
+    (withEditing (u .chip) (w .chip .editing) ≡ w .chip) × (u .lent .store ≡ w .lent .store)
 unfolding recordAfter
-at-once {w = w} {v = v} {u = u} a b s small below k z kept l y =
+at-once {ed} {w = w} {v = v} {u = u} a b s small below k z kept l y =
     let answer = sym (served-answer k) ∙ z in
     let record-is :
-    recordIn (v .chip) (v .lent .places) ≡ take 256 (entryAt (w .chip) (w .lent .store) a ∷ recordIn (w .chip) (w .lent .places)) =
+    recordIn (v .chip) ed (placesOf (v .lent) ed)
+    ≡ take 256 (entryAt (w .chip) (w .lent .store) a ∷ recordIn (w .chip) ed (placesOf (w .lent) ed)) =
     written k .record-after ∙ simp (eq-eqb _ _ answer, kept) in
-    let newest-is : newest (v .chip) (v .lent .places) ≡ entryAt (w .chip) (w .lent .store) a = ap head record-is in
+    let newest-is : newest (v .chip) ed (placesOf (v .lent) ed) ≡ entryAt (w .chip) (w .lent .store) a = ap head record-is in
     let after = served-is k z in
     let back = served-is l y in
     let widths = knows s .widths in
     let value = contents-small (w .chip) (w .lent .store) widths (knows s .bytes) (registerAt a) in
-    let there = served-register (w .chip) (length (w .lent .store)) a answer in (
-      rw (back, newest-is, after) (chip-again (w .chip) (w .lent .store) a b small below widths value there kept),
-      rw (back, newest-is, after) (store-again (w .chip) (w .lent .store) a b small below widths value there kept),
+    let there = served-register (w .chip) ed (length (w .lent .store)) a answer in (
+      rw (back, newest-is, after) (chip-again (w .chip) ed (w .lent .store) a b small below widths value there kept),
+      rw (back, newest-is, after) (store-again (w .chip) ed (w .lent .store) a b small below widths value there kept),
     )

@@ -8,13 +8,21 @@ use native.Mathlib.Omega.{arith}
 use borrow.Author.Tests.{eqb-true}
 use lib.Dec.{eqb}
 use lib.ListN.{length, take}
-use Rattle.common.specs.Answers.{done}
+use Rattle.common.specs.Answers.{done, served}
 use Rattle.common.specs.Choice.{if}
 use Rattle.common.proofs.Lists.{after-set, map-take}
+use Rattle.editors.specs.declared.Editor.{Editor}
+use Rattle.editors.specs.declared.Editor.the-variants.{Song, Picture}
+use Rattle.editors.specs.declared.Owners.{Owners}
+use Rattle.editors.specs.Table.{other, same}
+use Rattle.editors.proofs.Which.{Which, own, another, which, same-self, same-other}
 use Rattle.ring.specs.Ring.{entries, recordOf, tail}
 use Rattle.chip.specs.declared.Chip.{Chip}
+use Rattle.chip.specs.declared.Editing.{Editing}
+use Rattle.chip.specs.Editors.{undoOf, noEntries, started as startedChip}
 use Rattle.chip.specs.Reset.{resetChip}
 use Rattle.chip.specs.Step.{stepped as steppedChip, countersStepped}
+use Rattle.chip.proofs.EditingLaws.{other-record}
 use Rattle.registers.specs.declared.address.Register.{Register}
 use Rattle.registers.specs.declared.address.Register.the-variants.{Pixel, Sprite, Palette, Video, Ivr, Converter, Channel as ChannelAt, Dcsr, Status, Empty}
 use Rattle.registers.specs.Address.{registerAt}
@@ -23,18 +31,17 @@ use Rattle.contents.specs.Contents.{Holds}
 use Rattle.contents.specs.Widths.{Widths, Bytes}
 use Rattle.contents.proofs.WidthsLaws.{reset-widths}
 use Rattle.page.specs.UndoRecord.{isKept, entryRegister, entryContents, entryAt, recordIn}
-use Rattle.page.specs.Page.{recordAfter}
-use Rattle.page.specs.Undo.{newest}
+use Rattle.page.specs.Page.{pageWritten, recordAfter}
+use Rattle.page.specs.Undo.{undone}
 use Rattle.page.proofs.HoldsAt.{holds-at}
 use Rattle.page.proofs.UndoLaws.{served-register}
-use Rattle.runs.specs.World.{World}
-use Rattle.runs.specs.Call.{Call, write, undo, Reply, Typed, answerTo, servedWorld}
-use Rattle.runs.specs.Sort as sort
-use Rattle.runs.specs.Sort.{sortOf, edits, onEdit}
+use Rattle.runs.specs.World.{World, placesOf}
+use Rattle.runs.specs.Call.{Call, bc, write, undo, start, Reply, Typed, answerTo, servedWorld}
+use Rattle.runs.specs.Sort.{sortOf, editorIn, onEdit}
 use Rattle.runs.specs.Run.{Made, Makes, Run, ended, on, Each}
-use Rattle.runs.specs.Trace.{Handed, lentOn, handedBy, handedOver, HandsOn, Snapshot, snapshotsBy, snapshotsOver, Trace}
+use Rattle.runs.specs.Trace.{Handed, lentOn, handedTo, LentTo, handedBy, handedOver, HandsOn, Snapshot, snapshotsBy, snapshotsOver, Trace}
 use Rattle.runs.proofs.Calls.{by-answer, fixed, written, taken}
-use Rattle.runs.proofs.Views.{View, feeds, writes, undoes, steps, lends, plain, view}
+use Rattle.runs.proofs.Views.{newestOf, View, feeds, writes, undoes, steps, starts, lends, plain, view}
 use Rattle.runs.proofs.Within.{call-widths}
 
 -- the entry of a snapshot
@@ -53,32 +60,46 @@ abbrev pub AllKnown : List Snapshot → Type 0
 AllKnown [] = Unit {0}
 AllKnown (s ∷ ss) = Known s × AllKnown ss
 
--- and of a chip, with the store and the places that are handed on and the snapshots of the run to it
-pub record Knows (c : Chip) (h : Handed) (ss : List Snapshot) : Type 0 where
+-- and of a chip, with the store and this editor's places that are handed on and the snapshots of the run to it
+pub record Knows (ed : Editor) (c : Chip) (h : Handed) (ss : List Snapshot) : Type 0 where
   pub widths : Widths c
   pub bytes : Bytes (h .store)
-  pub tells : recordIn c (h .places) ≡ map entryOf ss
+  pub tells : recordIn c ed (h .places) ≡ map entryOf ss
   pub each : AllKnown ss
 
--- ---- a call by what it is to the record: a page write, an undo, or one that leaves it
-record Leaves (w : World) (c : Call) : Type 0 where
-  none : edits (sortOf c) ≡ false
-  undo-record : servedWorld w c .chip .editing .undo ≡ w .chip .editing .undo
-  snapshots : (answer : ℕ) (ss : List Snapshot) → snapshotsBy (sortOf c) w answer ss ≡ ss
+-- ---- a call by what it is to this editor's record: its page write or its undo; one of the other editor's; a start, which empties it;
+-- or one that leaves it
 
-data Edit (w : World) : Call → Type 0 where
-  wrote : (a b : ℕ) → Edit w (write a b)
-  undid : Edit w undo
-  left : {c : Call} → Leaves w c → Edit w c
+record Leaves (ed : Editor) (w : World) (c : Call) : Type 0 where
+  none : editorIn (sortOf c) ≡ []
+  undo-record : undoOf (servedWorld w c .chip .editing) ed ≡ undoOf (w .chip .editing) ed
+  snapshots : (answer : ℕ) (ss : List Snapshot) → snapshotsBy ed (sortOf c) w answer ss ≡ ss
 
-edit-of : {w : World} {c : Call} → View w c → Edit w c
+data Edit (ed : Editor) (w : World) : Call → Type 0 where
+  wrote : (a b : ℕ) → Edit ed w (write ed a b)
+  undid : Edit ed w (undo ed)
+  others-wrote : (a b : ℕ) → Edit ed w (write (other ed) a b)
+  others-undid : Edit ed w (undo (other ed))
+  started : (o : Owners) → Edit ed w (start o)
+  left : {c : Call} → Leaves ed w c → Edit ed w c
+
+write-of : {ed f : Editor} (w : World) (a b : ℕ) → Which ed f → Edit ed w (write f a b)
+write-of w a b own = wrote a b
+write-of w a b another = others-wrote a b
+
+undo-of : {ed f : Editor} (w : World) → Which ed f → Edit ed w (undo f)
+undo-of w own = undid
+undo-of w another = others-undid
+
+edit-of : (ed : Editor) {w : World} {c : Call} → View w c → Edit ed w c
 unfolding steppedChip countersStepped
-edit-of (feeds b l) = left (record { none = refl; undo-record = l .undo-record; snapshots = λ n ss. refl })
-edit-of (writes a b e) = wrote a b
-edit-of (undoes e) = undid
-edit-of (steps a) = left (record { none = refl; undo-record = refl; snapshots = λ n ss. refl })
-edit-of (lends b) = left (record { none = refl; undo-record = refl; snapshots = λ n ss. refl })
-edit-of (plain {c} s q l) = left {c = c} (record { none = rw s; undo-record = l .undo-record; snapshots = λ n ss. rw s })
+edit-of ed (feeds b l) = left {c = bc b} (record { none = refl; undo-record = rw (l .editing); snapshots = λ n ss. refl })
+edit-of ed {w} (writes f a b e) = write-of w a b (which ed f)
+edit-of ed {w} (undoes f e) = undo-of w (which ed f)
+edit-of ed (steps a) = left (record { none = refl; undo-record = refl; snapshots = λ n ss. refl })
+edit-of ed (starts o) = started o
+edit-of ed (lends l) = left (record { none = refl; undo-record = refl; snapshots = λ n ss. refl })
+edit-of ed (plain {c} s q l) = left {c = c} (record { none = rw s; undo-record = rw (l .editing); snapshots = λ n ss. rw s })
 
 -- ---- the store has bytes
 put-bytes : (store : List ℕ) (x : Register) (v : ℕ) → v < 256 → Bytes store → Bytes (storePut store x v)
@@ -93,6 +114,19 @@ put-bytes store Dcsr v h s = s
 put-bytes store Status v h s = s
 put-bytes store Empty v h s = s
 
+write-bytes : {w v : World} {e : Editor} {a b : ℕ} {r : Reply} → Makes w (write e a b) r v → Bytes (w .lent .store) → Bytes (v .lent .store)
+write-bytes {w} {e = e} {a = a} {b = b} k h =
+    rw (fixed k .world-is)
+    (by-answer (λ u. Bytes (u .lent .store)) w (write e a b)
+    (λ z. put-bytes (w .lent .store) (registerAt a) (b % 16) (omega arith) h) h)
+
+undo-bytes : {w v : World} {e : Editor} {r : Reply} → Makes w (undo e) r v → Bytes (w .lent .store) → Bytes (v .lent .store)
+undo-bytes {w} {e = e} k h =
+    let entry = newestOf w e in
+    rw (fixed k .world-is)
+    (by-answer (λ u. Bytes (u .lent .store)) w (undo e)
+    (λ z. put-bytes (w .lent .store) (entryRegister entry) (entryContents entry) (omega arith) h) h)
+
 -- ---- what is known of the snapshots
 
 known-take : (n : ℕ) (ss : List Snapshot) → AllKnown ss → AllKnown (take n ss)
@@ -105,16 +139,20 @@ known-tail [] e = tt
 known-tail (s ∷ ss) e = e .1
 
 -- ---- a page write, on the store and the places that are handed on
-module _ {w v : World} {r : Reply} {a b : ℕ} (ss : List Snapshot) (k : Makes w (write a b) r v) (t : Typed (write a b))
-    (s : Knows (w .chip) (lentOn w) ss) where
+module _ {ed : Editor} {w v : World} {r : Reply} {a b : ℕ} (ss : List Snapshot) (k : Makes w (write ed a b) r v) (t : Typed (write ed a b))
+    (s : Knows ed (w .chip) (lentOn w ed) ss) where
   abbrev here : Snapshot
   here = record { address = a; before = w }
 
-  write-tells : recordIn (v .chip) (v .lent .places) ≡ map entryOf (snapshotsBy (sort.writes a b) w (r .answer) ss)
+  -- the snapshots after it
+  abbrev now-taken : ℕ → List Snapshot
+  now-taken answer = served answer (if (isKept (registerAt a)) (take 256 (here ∷ ss)) ss) ss
+
+  write-tells : recordIn (v .chip) ed (placesOf (v .lent) ed) ≡ map entryOf (now-taken (r .answer))
   unfolding recordAfter
   write-tells =
       written k .record-after
-      ∙ rw (written k .call .answer, s .tells) (go (eqb (answerTo w (write a b)) done) (isKept (registerAt a)))
+      ∙ rw (written k .call .answer, s .tells) (go (eqb (answerTo w (write ed a b)) done) (isKept (registerAt a)))
     where
       go :
           (t k : Bool) →
@@ -124,115 +162,178 @@ module _ {w v : World} {r : Reply} {a b : ℕ} (ss : List Snapshot) (k : Makes w
       go true false = refl
       go false k = refl
 
-  write-known : AllKnown (snapshotsBy (sort.writes a b) w (answerTo w (write a b)) ss)
-  write-known = go (eqb (answerTo w (write a b)) done) refl (isKept (registerAt a)) refl
+  write-known : AllKnown (now-taken (answerTo w (write ed a b)))
+  write-known = go (eqb (answerTo w (write ed a b)) done) refl (isKept (registerAt a)) refl
     where
-      known : answerTo w (write a b) ≡ done → isKept (registerAt a) ≡ true → Known here
+      known : answerTo w (write ed a b) ≡ done → isKept (registerAt a) ≡ true → Known here
       known z k =
           record {
             small = t .0;
             widths = s .widths;
             bytes = s .bytes;
-            holds = holds-at a (served-register (w .chip) (length (w .lent .store)) a z) k;
+            holds = holds-at (w .chip .editing .table) ed a (served-register (w .chip) ed (length (w .lent .store)) a z) k;
             kept = k;
           }
 
       go :
-          (t : Bool) → eqb (answerTo w (write a b)) done ≡ t → (k : Bool) → isKept (registerAt a) ≡ k →
+          (t : Bool) → eqb (answerTo w (write ed a b)) done ≡ t → (k : Bool) → isKept (registerAt a) ≡ k →
           AllKnown (if t (if k (take 256 (here ∷ ss)) ss) ss)
       go true e true k = known-take 256 (here ∷ ss) (known (eqb-true _ _ e) k, s .each)
       go true e false k = s .each
       go false e k f = s .each
 
-  write-knows : Knows (v .chip) (lentOn v) (snapshotsBy (sort.writes a b) w (r .answer) ss)
+  write-knows : Knows ed (v .chip) (lentOn v ed) (now-taken (r .answer))
   write-knows =
       record {
-        widths = rw (fixed k .world-is) (call-widths w (write a b) t (s .widths));
-        bytes =
-            rw (fixed k .world-is)
-            (by-answer (λ u. Bytes (u .lent .store)) w (write a b)
-            (λ z. put-bytes (w .lent .store) (registerAt a) (b % 16) (omega arith) (s .bytes)) (s .bytes));
+        widths = rw (fixed k .world-is) (call-widths w (write ed a b) t (s .widths));
+        bytes = write-bytes k (s .bytes);
         tells = write-tells;
         each = rw (fixed k .reply-is) write-known;
       }
 
 -- ---- an undo
-module _ {w v : World} {r : Reply} (ss : List Snapshot) (k : Makes w undo r v) (s : Knows (w .chip) (lentOn w) ss) where
-  undo-tells : recordIn (v .chip) (v .lent .places) ≡ map entryOf (snapshotsBy sort.undoes w (r .answer) ss)
+module _ {ed : Editor} {w v : World} {r : Reply} (ss : List Snapshot) (k : Makes w (undo ed) r v) (s : Knows ed (w .chip) (lentOn w ed) ss) where
+  undo-tells : recordIn (v .chip) ed (placesOf (v .lent) ed) ≡ map entryOf (served (r .answer) (tail ss) ss)
   undo-tells =
       let t = taken k in
       rw (t .places-stay)
-      (t .undoes .record-after ∙ rw (t .undoes .call .answer, s .tells) (go (eqb (answerTo w undo) done) ss))
+      (t .undoes .record-after ∙ rw (t .undoes .call .answer, s .tells) (go (eqb (answerTo w (undo ed)) done) ss))
     where
       go : (t : Bool) (l : List Snapshot) → if t (tail (map entryOf l)) (map entryOf l) ≡ map entryOf (if t (tail l) l)
       go true [] = refl
       go true (x ∷ l) = refl
       go false l = refl
 
-  undo-known : AllKnown (snapshotsBy sort.undoes w (r .answer) ss)
+  undo-known : AllKnown (served (r .answer) (tail ss) ss)
   undo-known = go (eqb (r .answer) done)
     where
       go : (t : Bool) → AllKnown (if t (tail ss) ss)
       go true = known-tail ss (s .each)
       go false = s .each
 
-  undo-knows : Knows (v .chip) (lentOn v) (snapshotsBy sort.undoes w (r .answer) ss)
+  undo-knows : Knows ed (v .chip) (lentOn v ed) (served (r .answer) (tail ss) ss)
   undo-knows =
-      let e = newest (w .chip) (w .lent .places) in
       record {
-        widths = rw (fixed k .world-is) (call-widths w undo tt (s .widths));
-        bytes =
-            rw (fixed k .world-is)
-            (by-answer (λ u. Bytes (u .lent .store)) w undo
-            (λ z. put-bytes (w .lent .store) (entryRegister e) (entryContents e) (omega arith) (s .bytes)) (s .bytes));
+        widths = rw (fixed k .world-is) (call-widths w (undo ed) tt (s .widths));
+        bytes = undo-bytes k (s .bytes);
         tells = undo-tells;
         each = undo-known;
       }
 
--- ---- so over a call, over a run, and from reset
+-- ---- the other editor's edits, which leave this one's record
+module _ {ed : Editor} {w v : World} {c : Call} {r : Reply} {h : Handed} (ss : List Snapshot) (k : Makes w c r v) (t : Typed c)
+    (s : Knows ed (w .chip) h ss) where
+  others-knows :
+      undoOf (servedWorld w c .chip .editing) ed ≡ undoOf (w .chip .editing) ed → Bytes (v .lent .store) →
+      Knows ed (v .chip) (record { store = v .lent .store; places = h .places }) ss
+  unfolding recordOf
+  others-knows e bytes =
+      record {
+        widths = rw (fixed k .world-is) (call-widths w c t (s .widths));
+        bytes = bytes;
+        tells =
+            rw (fixed k .world-is)
+            (by-answer (λ u. recordIn (u .chip) ed (h .places) ≡ map entryOf ss) w c (λ z. rw e (s .tells)) (s .tells));
+        each = s .each;
+      }
 
-left-knows :
-    {w v : World} {c : Call} {r : Reply} {h : Handed} (ss : List Snapshot) → Makes w c r v → Typed c → Leaves w c →
-    Knows (w .chip) h ss → Knows (v .chip) h ss
-unfolding recordOf
-left-knows {w} {v} {c} {h = h} ss k t l s =
+  -- a call that is no edit
+  left-knows : undoOf (servedWorld w c .chip .editing) ed ≡ undoOf (w .chip .editing) ed → Knows ed (v .chip) h ss
+  unfolding recordOf
+  left-knows e =
+      record {
+        widths = rw (fixed k .world-is) (call-widths w c t (s .widths));
+        bytes = s .bytes;
+        tells =
+            rw (fixed k .world-is)
+            (by-answer (λ u. recordIn (u .chip) ed (h .places) ≡ map entryOf ss) w c (λ z. rw e (s .tells)) (s .tells));
+        each = s .each;
+      }
+
+-- ---- a start leaves nothing to undo
+none-tells : (ed : Editor) (x : Editing) (places : List ℕ) → undoOf x ed ≡ noEntries → recordOf (undoOf x ed) places ≡ []
+unfolding recordOf entries
+none-tells ed x places e = rw e
+
+started-none : (ed : Editor) (c : Chip) (o : Owners) → undoOf (startedChip c o .editing) ed ≡ noEntries
+unfolding startedChip
+started-none Song c o = refl
+started-none Picture c o = refl
+
+reset-none : (ed : Editor) → undoOf (resetChip .editing) ed ≡ noEntries
+unfolding resetChip
+reset-none Song = refl
+reset-none Picture = refl
+
+start-knows :
+    {ed : Editor} {w v : World} {o : Owners} {r : Reply} {h : Handed} {ss : List Snapshot} → Makes w (start o) r v →
+    Knows ed (w .chip) h ss → Knows ed (v .chip) h []
+start-knows {ed} {w} {o = o} {h = h} k s =
     record {
-      widths = rw (fixed k .world-is) (call-widths w c t (s .widths));
+      widths = rw (fixed k .world-is) (call-widths w (start o) tt (s .widths));
       bytes = s .bytes;
-      tells =
-          rw (fixed k .world-is)
-          (by-answer (λ u. recordIn (u .chip) (h .places) ≡ map entryOf ss) w c (λ z. rw (l .undo-record) (s .tells)) (s .tells));
-      each = s .each;
+      tells = rw (fixed k .world-is) (none-tells ed (startedChip (w .chip) o .editing) (h .places) (started-none ed (w .chip) o));
+      each = tt;
     }
 
+-- ---- so over a call, over a run, and from reset
+
+other-write : (ed : Editor) (w : World) (a b : ℕ) → undoOf (servedWorld w (write (other ed) a b) .chip .editing) ed ≡ undoOf (w .chip .editing) ed
+unfolding pageWritten
+other-write ed w a b = other-record ed (w .chip .editing) _
+
+other-undo : (ed : Editor) (w : World) → undoOf (servedWorld w (undo (other ed)) .chip .editing) ed ≡ undoOf (w .chip .editing) ed
+unfolding undone
+other-undo ed w = other-record ed (w .chip .editing) _
+
+-- an edit by the test of whose it is
+own-edit :
+    (ed : Editor) (w v : World) (h : Handed) (ss ts : List Snapshot) (q : Bool) → q ≡ true → LentTo q w ed h →
+    (Knows ed (w .chip) (lentOn w ed) ss → Knows ed (v .chip) (lentOn v ed) ts) → Knows ed (w .chip) h ss →
+    Knows ed (v .chip) (handedTo q v ed h) (if q ts ss)
+own-edit ed w v h ss ts true e lent f s = f (rw (← lent) at s)
+own-edit ed w v h ss ts false e lent f s = absurd (let z : _≡_ {A = ℕ} 0 1 = cc in omega arith)
+
+other-edit :
+    (ed : Editor) (w v : World) (h : Handed) (ss ts : List Snapshot) (q : Bool) → q ≡ false → LentTo q w ed h →
+    (w .lent .store ≡ h .store → Knows ed (v .chip) (record { store = v .lent .store; places = h .places }) ss) →
+    Knows ed (v .chip) (handedTo q v ed h) (if q ts ss)
+other-edit ed w v h ss ts true e lent f = absurd (let z : _≡_ {A = ℕ} 0 1 = cc in omega arith)
+other-edit ed w v h ss ts false e lent f = f lent
+
 call-knows :
-    {w v : World} {c : Call} {r : Reply} (h : Handed) (ss : List Snapshot) → Edit w c → Makes w c r v → Typed c →
-    onEdit (lentOn w ≡ h) (Unit {0}) c → Knows (w .chip) h ss →
-    Knows (v .chip) (handedBy (record { before = w; asks = c; reply = r; after = v }) h) (snapshotsBy (sortOf c) w (r .answer) ss)
-call-knows h ss (wrote a b) k t same s = write-knows ss k t (rw (← same) at s)
-call-knows h ss undid k t same s = undo-knows ss k (rw (← same) at s)
-call-knows {r = r} h ss (left l) k t same s = rw (l .none, l .snapshots (r .answer) ss) (left-knows ss k t l s)
+    {ed : Editor} {w v : World} {c : Call} {r : Reply} (h : Handed) (ss : List Snapshot) → Edit ed w c → Makes w c r v → Typed c →
+    onEdit (λ f. LentTo (same ed f) w ed h) (Unit {0}) c → Knows ed (w .chip) h ss →
+    Knows ed (v .chip) (handedBy ed (record { before = w; asks = c; reply = r; after = v }) h) (snapshotsBy ed (sortOf c) w (r .answer) ss)
+call-knows {ed} {w} {v} h ss (wrote a b) k t lent s =
+    own-edit ed w v h ss _ (same ed ed) (same-self ed) lent (λ q. write-knows ss k t q) s
+call-knows {ed} {w} {v} h ss undid k t lent s =
+    own-edit ed w v h ss _ (same ed ed) (same-self ed) lent (λ q. undo-knows ss k q) s
+call-knows {ed} {w} {v} h ss (others-wrote a b) k t lent s =
+    other-edit ed w v h ss _ (same ed (other ed)) (same-other ed) lent
+    (λ e. others-knows ss k t s (other-write ed w a b) (write-bytes k (rw e (s .bytes))))
+call-knows {ed} {w} {v} h ss others-undid k t lent s =
+    other-edit ed w v h ss _ (same ed (other ed)) (same-other ed) lent
+    (λ e. others-knows ss k t s (other-undo ed w) (undo-bytes k (rw e (s .bytes))))
+call-knows h ss (started o) k t lent s = start-knows k s
+call-knows {r = r} h ss (left l) k t lent s = rw (l .none, l .snapshots (r .answer) ss) (left-knows ss k t s (l .undo-record))
 
 run-knows :
-    {w v : World} {es : List Made} (h : Handed) (ss : List Snapshot) → Run w es v → Each (λ e. Typed (e .asks)) es →
-    HandsOn es h → Knows (w .chip) h ss → Knows (v .chip) (handedOver es h) (snapshotsOver es ss)
+    {ed : Editor} {w v : World} {es : List Made} (h : Handed) (ss : List Snapshot) → Run w es v → Each (λ e. Typed (e .asks)) es →
+    HandsOn ed es h → Knows ed (w .chip) h ss → Knows ed (v .chip) (handedOver ed es h) (snapshotsOver ed es ss)
 run-knows h ss ended t hands s = s
-run-knows h ss (on {w} {v} {c = c} {r = r} k rest) t hands s =
-    run-knows (handedBy (record { before = w; asks = c; reply = r; after = v }) h) (snapshotsBy (sortOf c) w (r .answer) ss) rest (t .1)
-    (hands .1) (call-knows h ss (edit-of (view w c)) k (t .0) (hands .0) s)
+run-knows {ed} h ss (on {w} {v} {c = c} {r = r} k rest) t hands s =
+    run-knows (handedBy ed (record { before = w; asks = c; reply = r; after = v }) h) (snapshotsBy ed (sortOf c) w (r .answer) ss) rest (t .1)
+    (hands .1) (call-knows h ss (edit-of ed (view w c)) k (t .0) (hands .0) s)
 
-reset-tells : (places : List ℕ) → recordIn resetChip places ≡ []
-unfolding recordOf entries resetChip
-reset-tells places = refl
-
-pub knows : {start w : World} {log : List Made} {ss : List Snapshot} → Trace start log w ss → Knows (w .chip) (lentOn w) ss
-knows {start} t =
+pub knows : {ed : Editor} {start w : World} {log : List Made} {ss : List Snapshot} → Trace ed start log w ss → Knows ed (w .chip) (lentOn w ed) ss
+knows {ed} {start} t =
     let fresh = t .reached .fresh in
     rw (← (t .snapshots), t .lent-last)
-    (run-knows (lentOn start) [] (t .reached .run) (t .reached .typed) (t .hands)
+    (run-knows (lentOn start ed) [] (t .reached .run) (t .reached .typed) (t .hands)
     (record {
       widths = rw (fresh .chip) reset-widths;
       bytes = t .bytes;
-      tells = rw (fresh .chip) (reset-tells (start .lent .places));
+      tells = rw (fresh .chip) (none-tells ed (resetChip .editing) (placesOf (start .lent) ed) (reset-none ed));
       each = tt;
     }))

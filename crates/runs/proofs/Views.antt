@@ -3,6 +3,8 @@
 use mathlib.Core.Path.{_≡_, refl, ap}
 use mathlib.Core.List.{[]}
 use Prim.Native.Nat.{ℕ}
+use Rattle.editors.specs.declared.Editor.{Editor}
+use Rattle.editors.specs.declared.Owners.{Owners}
 use Rattle.ring.specs.declared.Undo.{Undo}
 use Rattle.sound.specs.declared.Accesses.{Accesses}
 use Rattle.sound.specs.Line.{channelOf}
@@ -10,7 +12,8 @@ use Rattle.chip.specs.declared.Chip.{Chip}
 use Rattle.chip.specs.Channels.{Aside}
 use Rattle.chip.specs.Ports.{selected, dataWritten, gateWritten}
 use Rattle.chip.specs.Interrupts.{acknowledged}
-use Rattle.chip.specs.State.{withUndo}
+use Rattle.chip.specs.State.{withEditing}
+use Rattle.chip.specs.Editors.{editingWith}
 use Rattle.chip.proofs.ChannelLaws.{aside-self, acknowledge-leaves}
 use Rattle.registers.specs.Address.{registerAt}
 use Rattle.registers.specs.Registers.{registerWritten}
@@ -18,33 +21,39 @@ use Rattle.contents.specs.Widths.{Widths}
 use Rattle.page.specs.UndoRecord.{entryAddress, entryContents}
 use Rattle.page.specs.Page.{pageWritten}
 use Rattle.page.specs.Undo.{newest, undone}
-use Rattle.runs.specs.World.{Buffers, World, withChip}
-use Rattle.runs.specs.Call.{Call, bc, bd, gate, read, write, undo, ack, line, lend, servedWorld}
+use Rattle.runs.specs.World.{World, placesOf, withChip, Loan}
+use Rattle.runs.specs.Call.{Call, bc, bd, gate, read, write, undo, ack, line, start, lend, servedWorld}
 use Rattle.runs.specs.Sort as sort
 use Rattle.runs.specs.Sort.{sortOf}
 use Rattle.runs.proofs.ChipWidths.{beside, acknowledged-widths}
 
--- what stays over a call that is neither an edit, nor a line step, nor lends: the buffers and the undo record; of a channel all but its
--- interrupt; the widths
+-- what stays over a call that is neither an edit, nor a line step, nor a start, nor lends: the buffers; the table and the undo records;
+-- IVR; of a channel all but its interrupt; the widths
 pub record Leaves (w v : World) : Type 0 where
   pub lent : v .lent ≡ w .lent
-  pub undo-record : v .chip .editing .undo ≡ w .chip .editing .undo
+  pub editing : v .chip .editing ≡ w .chip .editing
+  pub ivr : v .chip .interrupts .ivr ≡ w .chip .interrupts .ivr
   pub channel : (n : ℕ) → Aside (channelOf (w .chip .sound .channels) n) (channelOf (v .chip .sound .channels) n)
   pub widths : Widths (w .chip) → Widths (v .chip)
 
--- a page write and an undo: a byte to the register at an address, with another undo record, store and places
-pub record Edits (w v : World) (address byte : ℕ) : Type 0 where
+-- a page write and an undo: an editor's byte to the register at an address, with another undo record of its, store and places
+pub record Edits (w v : World) (ed : Editor) (address byte : ℕ) : Type 0 where
   pub undo-record : Undo
-  pub chip : v .chip ≡ withUndo (registerWritten (w .chip) (registerAt address) byte) undo-record
+  pub chip :
+      v .chip ≡ withEditing (registerWritten (w .chip) ed (registerAt address) byte) (editingWith (w .chip .editing) ed undo-record)
+
+-- the newest entry of an editor's record
+abbrev pub newestOf : World → Editor → ℕ
+newestOf w ed = newest (w .chip) ed (placesOf (w .lent) ed)
 
 pub data View (w : World) : Call → Type 0 where
   feeds : (b : ℕ) → Leaves w (servedWorld w (bc b)) → View w (bc b)
-  writes : (a b : ℕ) → Edits w (servedWorld w (write a b)) a b → View w (write a b)
+  writes : (ed : Editor) (a b : ℕ) → Edits w (servedWorld w (write ed a b)) ed a b → View w (write ed a b)
   undoes :
-      Edits w (servedWorld w undo) (entryAddress (newest (w .chip) (w .lent .places))) (entryContents (newest (w .chip) (w .lent .places))) →
-      View w undo
+      (ed : Editor) → Edits w (servedWorld w (undo ed)) ed (entryAddress (newestOf w ed)) (entryContents (newestOf w ed)) → View w (undo ed)
   steps : (a : Accesses) → View w (line a)
-  lends : (b : Buffers) → View w (lend b)
+  starts : (o : Owners) → View w (start o)
+  lends : (l : Loan) → View w (lend l)
   plain :
       {c : Call} → sortOf c ≡ sort.plain → servedWorld w c .chip .lock ≡ w .chip .lock → Leaves w (servedWorld w c) → View w c
 
@@ -55,7 +64,8 @@ ports : (w : World) (d : Chip) → d .sprites ≡ w .chip .sprites → d .palett
 ports w d e f g h i j =
     record {
       lent = refl;
-      undo-record = rw j;
+      editing = j;
+      ivr = i;
       channel = λ n. rw h (aside-self (channelOf (w .chip .sound .channels) n));
       widths = beside (w .chip) d e f g (rw h) i;
     }
@@ -65,7 +75,8 @@ unfolding acknowledged
 acknowledge-all w =
     record {
       lent = refl;
-      undo-record = refl;
+      editing = refl;
+      ivr = refl;
       channel = acknowledge-leaves (w .chip);
       widths = acknowledged-widths (w .chip);
     }
@@ -75,12 +86,13 @@ unfolding selected dataWritten gateWritten acknowledged pageWritten undone
 view w (bc b) = feeds b (ports w (selected (w .chip) b) refl refl refl refl refl refl)
 view w (bd b) = plain refl refl (ports w (dataWritten (w .chip) b) refl refl refl refl refl refl)
 view w (gate b) = plain refl refl (ports w (gateWritten (w .chip) b) refl refl refl refl refl refl)
-view w (read a bus) = plain refl refl (ports w (w .chip) refl refl refl refl refl refl)
-view w (write a b) = writes a b (record { undo-record = _; chip = refl })
-view w undo = undoes (record { undo-record = _; chip = refl })
+view w (read ed a bus) = plain refl refl (ports w (w .chip) refl refl refl refl refl refl)
+view w (write ed a b) = writes ed a b (record { undo-record = _; chip = refl })
+view w (undo ed) = undoes ed (record { undo-record = _; chip = refl })
 view w ack = plain refl refl (acknowledge-all w)
 view w (line a) = steps a
-view w (lend b) = lends b
+view w (start o) = starts o
+view w (lend l) = lends l
 
 -- a call is a line step or none
 pub data LineView : Call → Type 0 where
@@ -89,10 +101,11 @@ pub data LineView : Call → Type 0 where
 
 line-of : {w : World} {c : Call} → View w c → LineView c
 line-of (feeds b l) = other refl
-line-of (writes a b e) = other refl
-line-of (undoes e) = other refl
+line-of (writes ed a b e) = other refl
+line-of (undoes ed e) = other refl
 line-of (steps a) = step a
-line-of (lends b) = other refl
+line-of (starts o) = other refl
+line-of (lends l) = other refl
 line-of (plain s q l) = other (ap sort.lineIn s)
 
 pub line-view : (w : World) (c : Call) → LineView c

@@ -3,7 +3,9 @@ use mathlib.Core.Path.{refl}
 use mathlib.Core.List.{List}
 use Prim.Native.Nat.{ℕ, _<_}
 use native.Mathlib.Omega.{arith}
-use Rattle.chip.specs.State.{withUndo}
+use Rattle.editors.specs.declared.Editor.{Editor}
+use Rattle.chip.specs.State.{withEditing}
+use Rattle.chip.specs.Editors.{editingWith, started}
 use Rattle.registers.specs.Address.{registerAt}
 use Rattle.registers.specs.Registers.{registerWritten}
 use Rattle.contents.specs.Widths.{Widths}
@@ -14,21 +16,25 @@ use Rattle.runs.specs.Run.{Made}
 use Rattle.runs.specs.Reached.{Reached}
 use Rattle.runs.proofs.Calls.{by-answer}
 use Rattle.runs.proofs.ChipWidths.{beside, stepped-widths}
-use Rattle.runs.proofs.Views.{Edits, View, feeds, writes, undoes, steps, lends, plain, view}
+use Rattle.runs.proofs.Views.{Edits, View, feeds, writes, undoes, steps, starts, lends, plain, view}
 use Rattle.runs.proofs.Runs.{handed-on}
 
 edit-widths :
-    {w v : World} {address byte : ℕ} → Edits w v address byte → byte < 256 → Widths (w .chip) → Widths (v .chip)
-edit-widths {w} {v} {address} {byte} e h k =
-    let d = registerWritten (w .chip) (registerAt address) byte in
-    rw (e .chip) (beside d (withUndo d (e .undo-record)) refl refl refl refl refl (write-widths (w .chip) (registerAt address) byte h k))
+    {w v : World} {ed : Editor} {address byte : ℕ} → Edits w v ed address byte → byte < 256 → Widths (w .chip) → Widths (v .chip)
+edit-widths {w} {v} {ed} {address} {byte} e h k =
+    let d = registerWritten (w .chip) ed (registerAt address) byte in
+    rw (e .chip)
+    (beside d (withEditing d (editingWith (w .chip .editing) ed (e .undo-record))) refl refl refl refl refl
+    (write-widths (w .chip) ed (registerAt address) byte h k))
 
 served-widths : (w : World) (c : Call) → View w c → Typed c → Widths (w .chip) → Widths (servedWorld w c .chip)
+unfolding started
 served-widths w c (feeds b l) h k = l .widths k
-served-widths w c (writes a b e) h k = edit-widths e (h .1) k
-served-widths w c (undoes e) h k = edit-widths e (omega arith) k
+served-widths w c (writes ed a b e) h k = edit-widths e (h .1) k
+served-widths w c (undoes ed e) h k = edit-widths e (omega arith) k
 served-widths w c (steps a) h k = stepped-widths (w .lent .ram) (w .chip) k
-served-widths w c (lends b) h k = k
+served-widths w c (starts o) h k = beside (w .chip) (started (w .chip) o) refl refl refl refl refl k
+served-widths w c (lends l) h k = k
 served-widths w c (plain s q l) h k = l .widths k
 
 pub call-widths : (w : World) (c : Call) → Typed c → Widths (w .chip) → Widths (worldAfter w c .chip)

@@ -2,10 +2,13 @@
 use Prim.Native.Nat.{ℕ, _<_}
 use lib.ListN.{length}
 use Rattle.common.specs.Answers.{done, served}
+use Rattle.editors.specs.declared.Editor.{Editor}
+use Rattle.editors.specs.declared.Owners.{Owners}
 use Rattle.sound.specs.declared.Accesses.{Accesses}
 use Rattle.sound.specs.declared.Report.{Report}
 use Rattle.sound.specs.Line.{soundReport}
 use Rattle.chip.specs.declared.Chip.{Chip}
+use Rattle.chip.specs.Editors.{started}
 use Rattle.chip.specs.Ports.{selected, dataAnswer, dataWritten, gateAnswer, gateWritten}
 use Rattle.chip.specs.Interrupts.{acknowledgeAnswer, acknowledged, vectorOn}
 use Rattle.chip.specs.Step.{stepAnswer, stepped, idleReport}
@@ -13,20 +16,22 @@ use Rattle.registers.specs.Address.{registerAt}
 use Rattle.registers.specs.Registers.{registerRead, storeWritten}
 use Rattle.page.specs.Page.{readAnswer, writeAnswer, pageWritten, placesAfter}
 use Rattle.page.specs.Undo.{undoAnswer, newest, undone, storeUndone}
-use Rattle.runs.specs.World.{Buffers, World, withChip, edited}
+use Rattle.runs.specs.World.{World, placesOf, withChip, edited, Loan, lentBy}
 
--- the byte of a port write; the address and the bus byte of a page read; the address and the byte of a page write; what the processor
--- does at the 8255 on a line. The buffers are those of the world. `lend` is no call of the chip: the host lends others from here on
+-- the byte of a port write; the editor, the address and the bus byte of a page read; the editor, the address and the byte of a page
+-- write; the editor of an undo; what the processor does at the 8255 on a line; the owners that a start gives. The buffers are those of
+-- the world. `lend` is no call of the chip: the host lends another buffer from here on
 pub data Call : Type 0 where
   bc : ℕ → Call
   bd : ℕ → Call
   gate : ℕ → Call
-  read : ℕ → ℕ → Call
-  write : ℕ → ℕ → Call
-  undo : Call
+  read : Editor → ℕ → ℕ → Call
+  write : Editor → ℕ → ℕ → Call
+  undo : Editor → Call
   ack : Call
   line : Accesses → Call
-  lend : Buffers → Call
+  start : Owners → Call
+  lend : Loan → Call
 
 -- what a caller is told: the answer number, and beside it nothing, a byte, a vector or a line's report
 pub data Told : Type 0 where
@@ -56,23 +61,23 @@ abbrev pub outcome : World → Call → Outcome
 outcome w (bc b) = chipOnly w done (selected (w .chip) b)
 outcome w (bd b) = chipOnly w (dataAnswer (w .chip)) (dataWritten (w .chip) b)
 outcome w (gate b) = chipOnly w (gateAnswer b) (gateWritten (w .chip) b)
-outcome w (read a bus) =
+outcome w (read e a bus) =
     let number = readAnswer (w .chip) (length (w .lent .store)) a in
-    record { answer = number; told = byte (served number (registerRead (w .chip) (w .lent .store) (registerAt a) bus) 0); next = w }
-outcome w (write a b) =
+    record { answer = number; told = byte (served number (registerRead (w .chip) e (w .lent .store) (registerAt a) bus) 0); next = w }
+outcome w (write e a b) =
     record {
-      answer = writeAnswer (w .chip) (length (w .lent .store)) a;
+      answer = writeAnswer (w .chip) e (length (w .lent .store)) a;
       told = nothing;
       next =
-          edited w (pageWritten (w .chip) (registerAt a) b) (storeWritten (w .lent .store) (registerAt a) b)
-          (placesAfter (w .chip) (w .lent .store) (w .lent .places) a);
+          edited w e (pageWritten (w .chip) e (registerAt a) b) (storeWritten (w .lent .store) (registerAt a) b)
+          (placesAfter (w .chip) e (w .lent .store) (placesOf (w .lent) e) a);
     }
-outcome w undo =
-    let e = newest (w .chip) (w .lent .places) in
+outcome w (undo e) =
+    let entry = newest (w .chip) e (placesOf (w .lent) e) in
     record {
-      answer = undoAnswer (w .chip) (length (w .lent .store));
+      answer = undoAnswer (w .chip) e (length (w .lent .store));
       told = nothing;
-      next = edited w (undone (w .chip) e) (storeUndone (w .lent .store) e) (w .lent .places);
+      next = edited w e (undone (w .chip) e entry) (storeUndone (w .lent .store) entry) (placesOf (w .lent) e);
     }
 outcome w ack =
     let number = acknowledgeAnswer (w .chip) in
@@ -84,7 +89,8 @@ outcome w (line a) =
       told = report (served number (soundReport (w .lent .ram) a (w .chip .sound)) idleReport);
       next = withChip w (stepped (w .lent .ram) (w .chip));
     }
-outcome w (lend b) = record { answer = done; told = nothing; next = record { chip = w .chip; lent = b } }
+outcome w (start o) = chipOnly w done (started (w .chip) o)
+outcome w (lend l) = record { answer = done; told = nothing; next = record { chip = w .chip; lent = lentBy l (w .lent) } }
 
 abbrev pub answerTo : World → Call → ℕ
 answerTo w c = outcome w c .answer
@@ -104,9 +110,10 @@ abbrev pub Typed : Call → Type 0
 Typed (bc b) = b < 256
 Typed (bd b) = b < 256
 Typed (gate b) = b < 256
-Typed (read a bus) = (a < 65536) × (bus < 256)
-Typed (write a b) = (a < 65536) × (b < 256)
-Typed undo = Unit {0}
+Typed (read e a bus) = (a < 65536) × (bus < 256)
+Typed (write e a b) = (a < 65536) × (b < 256)
+Typed (undo e) = Unit {0}
 Typed ack = Unit {0}
 Typed (line a) = Unit {0}
-Typed (lend b) = Unit {0}
+Typed (start o) = Unit {0}
+Typed (lend l) = Unit {0}

@@ -4,7 +4,7 @@ use Prim.Native.Nat.{ℕ}
 use Rattle.chip.proofs.start.reset.Reads as reset
 use Rattle.runs.specs.World.{World}
 use Rattle.runs.specs.Call.{Typed}
-use Rattle.runs.specs.Sort.{Sort, feeds, writes, undoes, stepsLine, lends, plain, sortOf}
+use Rattle.runs.specs.Sort.{Sort, feeds, writes, undoes, stepsLine, starts, lends, plain, sortOf}
 use Rattle.runs.specs.Run.{Made, Run, Each}
 
 -- a run from the chip that reset gives, with any buffers, each call served or refused, to a world
@@ -16,10 +16,11 @@ pub record Reached (start : World) (log : List Made) (w : World) : Type 0 where
 -- the bytes since reset, newest first, after a call: a BCxx write adds its byte
 abbrev pub fedBy : Sort → List ℕ → List ℕ
 fedBy (feeds b) h = b ∷ h
-fedBy (writes a b) h = h
-fedBy undoes h = h
+fedBy (writes e a b) h = h
+fedBy (undoes e) h = h
 fedBy (stepsLine a) h = h
-fedBy (lends b) h = h
+fedBy (starts o) h = h
+fedBy (lends l) h = h
 fedBy plain h = h
 
 -- and after a run

@@ -5,6 +5,8 @@ use Prim.Native.Nat.{ℕ}
 use contract.Lifetimes.{Lfts}
 use denote.Ref.{RefT, now, at-last}
 use Rattle.common.specs.Answers.{done}
+use Rattle.editors.specs.declared.Editor.{Editor}
+use Rattle.editors.specs.declared.Owners.{Owners}
 use Rattle.sound.specs.declared.Accesses.{Accesses}
 use Rattle.chip.specs.declared.Answered.{Answered}
 use Rattle.chip.specs.declared.Acknowledged.{Acknowledged}
@@ -15,10 +17,11 @@ use Rattle.chip.proofs.ports.write_bd.Reads as write-bd
 use Rattle.chip.proofs.ports.write_7f.Reads as write-7f
 use Rattle.chip.proofs.acknowledge.acknowledge.Reads as acknowledge
 use Rattle.chip.proofs.line.step.Reads as step
+use Rattle.chip.proofs.table.start.Reads as table-start
 use Rattle.page.proofs.page_read.Reads as page-read
 use Rattle.page.proofs.page_write.Reads as page-write
 use Rattle.page.proofs.undo.Reads as page-undo
-use Rattle.runs.specs.World.{Buffers, World, withChip, edited}
+use Rattle.runs.specs.World.{World, placesOf, withChip, edited, Loan, lentBy}
 use Rattle.runs.specs.Call as call
 use Rattle.runs.specs.Call.{Call, Reply, byte, vector, report, number, replyTo, worldAfter}
 
@@ -37,20 +40,20 @@ pub data Makes (w : World) : Call → Reply → World → Type 0 where
       write-7f.Learnt tt (w .chip, (b, tt)) r (w .chip, (b, tt)) →
       Makes w (call.gate b) (number (r .answer)) (withChip w (r .chip))
   read :
-      (κs : Lfts 1) (store : RefT (List ℕ)) (a bus : ℕ) (r : ByteRead) → now store ≡ w .lent .store →
-      page-read.Learnt κs (w .chip, (store, (a, (bus, tt)))) r (w .chip, (store, (a, (bus, tt)))) →
-      Makes w (call.read a bus) (record { answer = r .answer; told = byte (r .byte) }) w
+      (κs : Lfts 1) (e : Editor) (store : RefT (List ℕ)) (a bus : ℕ) (r : ByteRead) → now store ≡ w .lent .store →
+      page-read.Learnt κs (w .chip, (e, (store, (a, (bus, tt))))) r (w .chip, (e, (store, (a, (bus, tt))))) →
+      Makes w (call.read e a bus) (record { answer = r .answer; told = byte (r .byte) }) w
   write :
-      (κs : Lfts 2) (store places : RefT (List ℕ)) (store' places' : List ℕ) (a b : ℕ) (r : Answered) →
-      now store ≡ w .lent .store → now places ≡ w .lent .places →
-      page-write.Learnt κs (w .chip, (store, (places, (a, (b, tt))))) r
-      (w .chip, (at-last store store', (at-last places places', (a, (b, tt))))) →
-      Makes w (call.write a b) (number (r .answer)) (edited w (r .chip) store' places')
+      (κs : Lfts 2) (e : Editor) (store places : RefT (List ℕ)) (store' places' : List ℕ) (a b : ℕ) (r : Answered) →
+      now store ≡ w .lent .store → now places ≡ placesOf (w .lent) e →
+      page-write.Learnt κs (w .chip, (e, (store, (places, (a, (b, tt)))))) r
+      (w .chip, (e, (at-last store store', (at-last places places', (a, (b, tt)))))) →
+      Makes w (call.write e a b) (number (r .answer)) (edited w e (r .chip) store' places')
   undo :
-      (κs : Lfts 2) (store places : RefT (List ℕ)) (store' : List ℕ) (r : Answered) →
-      now store ≡ w .lent .store → now places ≡ w .lent .places →
-      page-undo.Learnt κs (w .chip, (store, (places, tt))) r (w .chip, (at-last store store', (places, tt))) →
-      Makes w call.undo (number (r .answer)) (edited w (r .chip) store' (w .lent .places))
+      (κs : Lfts 2) (e : Editor) (store places : RefT (List ℕ)) (store' : List ℕ) (r : Answered) →
+      now store ≡ w .lent .store → now places ≡ placesOf (w .lent) e →
+      page-undo.Learnt κs (w .chip, (e, (store, (places, tt)))) r (w .chip, (e, (at-last store store', (places, tt)))) →
+      Makes w (call.undo e) (number (r .answer)) (edited w e (r .chip) store' (placesOf (w .lent) e))
   ack :
       (r : Acknowledged) → acknowledge.Learnt tt (w .chip, tt) r (w .chip, tt) →
       Makes w call.ack (record { answer = r .answer; told = vector (r .vector) }) (withChip w (r .chip))
@@ -58,7 +61,10 @@ pub data Makes (w : World) : Call → Reply → World → Type 0 where
       (κs : Lfts 1) (ram : RefT (List ℕ)) (a : Accesses) (r : Stepped) → now ram ≡ w .lent .ram →
       step.Learnt κs (w .chip, (ram, (a, tt))) r (w .chip, (ram, (a, tt))) →
       Makes w (call.line a) (record { answer = r .answer; told = report (r .report) }) (withChip w (r .chip))
-  lend : (b : Buffers) → Makes w (call.lend b) (number done) (record { chip = w .chip; lent = b })
+  start :
+      (o : Owners) (r : Answered) → table-start.Learnt tt (w .chip, (o, tt)) r (w .chip, (o, tt)) →
+      Makes w (call.start o) (number (r .answer)) (withChip w (r .chip))
+  lend : (l : Loan) → Makes w (call.lend l) (number done) (record { chip = w .chip; lent = lentBy l (w .lent) })
 
 -- one call of a run: the world before it, the call, its reply, the world after it
 pub record Made : Type 0 where
