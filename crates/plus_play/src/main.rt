@@ -3,6 +3,7 @@ use chip::Answered;
 use chip::Chip;
 use common::answer::DONE;
 use common::answer::NO_STOP;
+use editors::Owners;
 use length_line::Length;
 use sound::Access;
 use sound::Accesses;
@@ -112,11 +113,18 @@ fn calls(prescale: u8) -> [u64; 22] {
     ]
 }
 
-// The chip after the take of these calls, or the number with which it is refused.
+// The chip after the take of these calls, or the number with which it is refused. No start is among them, so that the owners say
+// nothing.
 fn played(ram: &[u8; 65536], prescale: u8) -> Answered {
     let mut file = [0u8; 196];
     let mut store = [0u8; 4096];
-    let mut places = [0u32; 256];
+    let mut song = [0u32; 256];
+    let mut picture = [0u32; 256];
+    let owners = Owners {
+        palette: 0,
+        sprites: 0,
+        channels: 0,
+    };
     let records = calls(prescale);
     let written = take::write(b"forecast", &records, &mut file);
     if written.answer != DONE {
@@ -125,7 +133,7 @@ fn played(ram: &[u8; 65536], prescale: u8) -> Answered {
             answer: written.answer,
         };
     }
-    let told = replay::replay(ram, &mut store, &mut places, &file);
+    let told = replay::replay(ram, &mut store, &mut song, &mut picture, owners, &file);
     let chip = told.chip;
     Answered {
         chip,

@@ -3,12 +3,12 @@ use native.Mathlib.Nat.{add-zero}
 use native.Mathlib.Omega.{arith}
 use borrow.Author.Tests.{eq-eqb}
 use mathlib.Core.Path.{_≡_, refl, _∙_, ap}
-use mathlib.Core.Bool.{Bool, true, false}
-use mathlib.Core.List.{List, [], _∷_, _++_}
+use mathlib.Core.Bool.{Bool}
+use mathlib.Core.List.{List, _∷_, _++_}
 use Prim.Native.Nat.{ℕ, zero, suc, _+_, _-_, _<_, _≤_}
-use lib.Dec.{eqb}
 use lib.ListN.{length}
-use Rattle.common.specs.Choice.{if, either}
+use Rattle.common.specs.Choice.{either}
+use Rattle.editors.specs.declared.Owners.{Owners}
 use Rattle.sound.specs.declared.Accesses.{Accesses}
 use Rattle.sound.specs.declared.Sound.{Sound}
 use Rattle.chip.specs.declared.Crtc.{Crtc}
@@ -17,11 +17,12 @@ use Rattle.chip.specs.declared.line.Moved.{Moved}
 use Rattle.chip.specs.Step.{stepAnswer, countersStepped, stepped, Moves}
 use Rattle.runs.specs.World.{World, withChip}
 use Rattle.runs.specs.Call.{Call, line, answerTo, worldAfter}
-use Rattle.runs.specs.Sort.{sortOf, lineIn, onLine}
+use Rattle.runs.specs.Sort.{onLine}
 use Rattle.runs.specs.Run.{worldOver}
 use Rattle.take.specs.declared.Record.{Record}
 use Rattle.replay.specs.Replay.{Progress, callBy, off, linesThen, later, callsFrom, refusalCounted, over, replayed}
 use Rattle.replay.specs.Parts.{moved, linesOn, answerIn, recordReplayed}
+use Rattle.replay.proofs.Asks.{Few, none, one, few}
 
 -- RAM of 65,536 bytes is served
 pub full-served : (ram : List ℕ) → length ram ≡ 65536 → stepAnswer ram ≡ 0
@@ -78,24 +79,7 @@ lines-first (suc n) p cs full =
     (λ (m : ℕ). over (record { world = withChip next (linesOn (w .lent .ram) n (next .chip)); lines = m; counts = p .counts }) cs)
     e
 
--- a record is one call that is no line step, or none
-data Few : List Call → Type 0 where
-  none : Few []
-  one : {c : Call} → lineIn (sortOf c) ≡ [] → Few (c ∷ [])
-
-either-few : (t : Bool) (cs ds : List Call) → Few cs → Few ds → Few (if t cs ds)
-either-few true cs ds h i = h
-either-few false cs ds h i = i
-
-few : (r : Record) → Few (callBy r)
-few r =
-    either-few (eqb (r .kind) 1) _ _ (one refl)
-    (either-few (eqb (r .kind) 2) _ _ (one refl)
-    (either-few (eqb (r .kind) 3) _ _ (one refl)
-    (either-few (eqb (r .kind) 4) _ _ (one refl)
-    (either-few (eqb (r .kind) 5) _ _ (one refl) (either-few (eqb (r .kind) 6) _ _ (one refl) none)))))
-
--- it is made, and its answer counted
+-- the call of a record is made, and its answer counted
 few-over :
     (p : Progress) (cs more : List Call) → Few cs →
     over p (cs ++ more)
@@ -103,7 +87,7 @@ few-over :
     (record { world = worldOver (p .world) cs; lines = p .lines; counts = refusalCounted (p .counts) (answerIn (p .world) cs) })
     more
 few-over p cs more none = refl
-few-over p cs more (one {c} e) =
+few-over p cs more (one {c} e h) =
     let w = worldAfter (p .world) c in
     let next = refusalCounted (p .counts) (answerTo (p .world) c) in
     let same :
@@ -115,11 +99,11 @@ few-over p cs more (one {c} e) =
 
 -- the records after one, from where it leads
 pub replayed-on :
-    (p : Progress) (r : Record) (rs : List Record) → length (p .world .lent .ram) ≡ 65536 →
-    replayed p (r ∷ rs) ≡ replayed (recordReplayed p r) rs
+    (o : Owners) (p : Progress) (r : Record) (rs : List Record) → length (p .world .lent .ram) ≡ 65536 →
+    replayed o p (r ∷ rs) ≡ replayed o (recordReplayed o p r) rs
 unfolding replayed recordReplayed callsFrom
-replayed-on p r rs full =
+replayed-on o p r rs full =
     let at = later (p .lines) (r .line) in
     let w = withChip (p .world) (linesOn (p .world .lent .ram) (r .line - p .lines) (p .world .chip)) in
-    lines-first (r .line - p .lines) p (callBy r ++ callsFrom at rs) full
-    ∙ few-over (record { world = w; lines = at; counts = p .counts }) (callBy r) (callsFrom at rs) (few r)
+    lines-first (r .line - p .lines) p (callBy o r ++ callsFrom o at rs) full
+    ∙ few-over (record { world = w; lines = at; counts = p .counts }) (callBy o r) (callsFrom o at rs) (few o r)

@@ -5,6 +5,7 @@ use mathlib.Core.List.{List}
 use Prim.Native.Nat.{ℕ, zero, suc, _+_, _-_, _*_, _^_, _<_, _≤_}
 use lib.ListN.{length, getD, take, drop, replicate, length-drop}
 use lib.Seq.{drop-drop, length-take-le}
+use Rattle.editors.specs.declared.Owners.{Owners}
 use Rattle.chip.specs.declared.Chip.{Chip}
 use Rattle.chip.specs.declared.Answered.{Answered}
 use Rattle.runs.specs.World.{withChip}
@@ -26,11 +27,11 @@ use Rattle.replay.proofs.Counts.{count-more}
 use Rattle.replay.proofs.Lines.{replayed-on}
 
 -- so many records are left at a place of a file, and played from here they come to the whole; the counts have room for each
-pub record Playing (file : List ℕ) (whole p : Progress) (at : ℕ) : Type 0 where
+pub record Playing (o : Owners) (file : List ℕ) (whole p : Progress) (at : ℕ) : Type 0 where
   pub full : length (p .world .lent .ram) ≡ 65536
   pub left : ℕ
   pub place : at + 8 * left + 12 ≡ length file
-  pub same : replayed p (recordsFrom left (drop at file)) ≡ whole
+  pub same : replayed o p (recordsFrom left (drop at file)) ≡ whole
   pub room : (i : ℕ) → getD (p .counts) i 0 + left < 2 ^ 32
 
 none-counted : (i : ℕ) → getD noCounts i 0 ≡ 0
@@ -43,38 +44,40 @@ none-counted i = go 24 i
 
 -- at reset all are left
 pub starts :
-    (ram store places : List ℕ) {file : List ℕ} {first : ℕ} → length ram ≡ 65536 → Opened file → first ≡ firstPlace file →
-    Playing file (replayed (fresh ram store places) (recordsOf file)) (fresh ram store places) first
+    (ram store song picture : List ℕ) (o : Owners) {file : List ℕ} {first : ℕ} → length ram ≡ 65536 → Opened file →
+    first ≡ firstPlace file →
+    Playing o file (replayed o (fresh ram store song picture) (recordsOf file)) (fresh ram store song picture) first
 unfolding recordsOf firstPlace
-starts ram store places {file} {first} full o at =
-    let m = done-met file (o .opens) in
-    let place : first ≡ offsetOf file = at ∙ simp (o .opens) in
+starts ram store song picture o {file} {first} full opens at =
+    let m = done-met file (opens .opens) in
+    let place : first ≡ offsetOf file = at ∙ simp (opens .opens) in
     record {
       full = full;
       left = countOf file;
       place = rw place (m .sum);
       same = rw place;
-      room = λ i. rw (none-counted i) (omega (arith, o .count));
+      room = λ i. rw (none-counted i) (omega (arith, opens .count));
     }
 
 -- a count after one record
-one-more : (p : Progress) (r : Record) (i : ℕ) → getD (recordReplayed p r .counts) i 0 ≤ getD (p .counts) i 0 + 1
+one-more : (o : Owners) (p : Progress) (r : Record) (i : ℕ) → getD (recordReplayed o p r .counts) i 0 ≤ getD (p .counts) i 0 + 1
 unfolding recordReplayed
-one-more p r i =
+one-more o p r i =
     count-more (p .counts)
-    (answerIn (withChip (p .world) (linesOn (p .world .lent .ram) (r .line - p .lines) (p .world .chip))) (callBy r)) i
+    (answerIn (withChip (p .world) (linesOn (p .world .lent .ram) (r .line - p .lines) (p .world .chip))) (callBy o r)) i
 
 -- one record is played by its parts
 pub one-replayed :
-    (ram : List ℕ) (p : Player) {store places store' places' : List ℕ} {r : Record} {c : Chip} {a : Answered} {number : ℕ} {counts : List ℕ} →
-    c ≡ linesOn ram (r .line - p .lines) (p .chip) → Calls c store places r store' places' a → number ≡ later (p .lines) (r .line) →
+    (ram : List ℕ) (p : Player) {store song picture store' song' picture' : List ℕ} {o : Owners} {r : Record} {c : Chip} {a : Answered}
+    {number : ℕ} {counts : List ℕ} → c ≡ linesOn ram (r .line - p .lines) (p .chip) →
+    Calls c store song picture o r store' song' picture' a → number ≡ later (p .lines) (r .line) →
     counts ≡ refusalCounted (p .counts) (a .answer) →
-    progressBy (record { chip = a .chip; lines = number; counts = counts }) ram store' places'
-    ≡ recordReplayed (progressBy p ram store places) r
+    progressBy (record { chip = a .chip; lines = number; counts = counts }) ram store' song' picture'
+    ≡ recordReplayed o (progressBy p ram store song picture) r
 unfolding recordReplayed
 one-replayed ram p on call to count = rw (count, to, call .answer ram, call .world ram, on)
 
-module _ {file : List ℕ} {whole p : Progress} {at : ℕ} (s : Playing file whole p at) where
+module _ {o : Owners} {file : List ℕ} {whole p : Progress} {at : ℕ} (s : Playing o file whole p at) where
   -- what the reader's step tells
   module _ {a : Advanced} (e : a ≡ advancedAt file at) where
     pub found-is : {f : Found} → a .found ≡ f → foundAt file at ≡ f
@@ -126,20 +129,20 @@ module _ {file : List ℕ} {whole p : Progress} {at : ℕ} (s : Playing file who
 
     -- it is played, and one fewer is left
     pub goes-on :
-        {q : Progress} {to : ℕ} → q ≡ recordReplayed p r → length (q .world .lent .ram) ≡ 65536 → to ≡ afterAt file at →
-        Playing file whole q to
+        {q : Progress} {to : ℕ} → q ≡ recordReplayed o p r → length (q .world .lent .ram) ≡ 65536 → to ≡ afterAt file at →
+        Playing o file whole q to
     goes-on {q} {to} f full t =
         let n = next e in
         let a : to ≡ at + 8 = t ∙ place-on .1 in
         let x : Record = unpacked (numberOf (take 8 (drop at file))) in
-        let is : q ≡ recordReplayed p x = f ∙ ap (recordReplayed p) (n .is) in
+        let is : q ≡ recordReplayed o p x = f ∙ ap (recordReplayed o p) (n .is) in
         let after : drop to file ≡ drop 8 (drop at file) = ap (λ k. drop k file) a ∙ sym (drop-drop 8 at file) in
         record {
           full = full;
           left = n .rest;
           place = omega (arith, s .place);
-          same = rw (is, after) (sym (replayed-on p x _ (s .full)) ∙ (rw (n .one) at (s .same)));
-          room = λ i. rw f (omega (arith, s .room i, one-more p r i));
+          same = rw (is, after) (sym (replayed-on o p x _ (s .full)) ∙ (rw (n .one) at (s .same)));
+          room = λ i. rw f (omega (arith, s .room i, one-more o p r i));
         }
 
 -- a take's count is a number of 4 bytes

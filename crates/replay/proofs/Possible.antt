@@ -1,31 +1,22 @@
--- Request L8: the calls of every take can be made by hand, on any RAM and store and 256 places.
-use mathlib.Core.Path.{_≡_, refl}
-use mathlib.Core.Bool.{Bool, true, false}
+-- Requests L8 and L9: the calls of every take can be made by hand, on any RAM and store, 256 places of each record and any owners.
+use mathlib.Core.Path.{refl}
 use mathlib.Core.List.{List, [], _∷_, _++_}
 use Prim.Native.Nat.{ℕ, zero, suc, _-_}
-use lib.Dec.{eqb}
-use lib.ListN.{length}
-use Rattle.common.specs.Choice.{if}
+use Rattle.editors.specs.declared.Owners.{Owners}
 use Rattle.chip.proofs.start.reset.Reads as reset
 use Rattle.runs.specs.Call.{Call}
 use Rattle.runs.specs.World.{World}
 use Rattle.runs.specs.Run.{madeOver, worldOver}
+use Rattle.runs.proofs.Calls.{AllPlaces}
 use Rattle.runs.proofs.Runs.{AllWhole, run-possible, calls-over}
 use Rattle.take.specs.declared.Record.{Record}
 use Rattle.replay.specs.Replay.{callBy, linesThen, later, callsFrom}
 use Rattle.replay.specs.ByHand.{ByHand}
+use Rattle.replay.proofs.Asks.{Few, none, one, few}
 
-either-whole : (t : Bool) (cs ds : List Call) → AllWhole cs → AllWhole ds → AllWhole (if t cs ds)
-either-whole true cs ds h i = h
-either-whole false cs ds h i = i
-
-call-whole : (r : Record) → AllWhole (callBy r)
-call-whole r =
-    either-whole (eqb (r .kind) 1) _ _ (tt, tt)
-    (either-whole (eqb (r .kind) 2) _ _ (tt, tt)
-    (either-whole (eqb (r .kind) 3) _ _ (tt, tt)
-    (either-whole (eqb (r .kind) 4) _ _ (tt, tt)
-    (either-whole (eqb (r .kind) 5) _ _ (tt, tt) (either-whole (eqb (r .kind) 6) _ _ (tt, tt) tt)))))
+few-whole : {cs : List Call} → Few cs → AllWhole cs
+few-whole none = tt
+few-whole (one l h) = (h, tt)
 
 both-whole : (cs ds : List Call) → AllWhole cs → AllWhole ds → AllWhole (cs ++ ds)
 both-whole [] ds h i = i
@@ -36,21 +27,23 @@ unfolding linesThen
 lines-whole zero cs h = h
 lines-whole (suc n) cs h = (tt, lines-whole n cs h)
 
-all-whole : (at : ℕ) (rs : List Record) → AllWhole (callsFrom at rs)
+all-whole : (o : Owners) (at : ℕ) (rs : List Record) → AllWhole (callsFrom o at rs)
 unfolding callsFrom
-all-whole at [] = tt
-all-whole at (r ∷ rs) =
-    let more = callsFrom (later at (r .line)) rs in
-    lines-whole (r .line - at) (callBy r ++ more) (both-whole (callBy r) more (call-whole r) (all-whole (later at (r .line)) rs))
+all-whole o at [] = tt
+all-whole o at (r ∷ rs) =
+    let more = callsFrom o (later at (r .line)) rs in
+    lines-whole (r .line - at) (callBy o r ++ more)
+    (both-whole (callBy o r) more (few-whole (few o r)) (all-whole o (later at (r .line)) rs))
 
 pub hand-possible :
-    (w : World) (rs : List Record) → reset.Learnt tt tt (w .chip) tt → length (w .lent .places) ≡ 256 →
-    ByHand (w .lent .ram) (w .lent .store) (w .lent .places) rs (madeOver w (callsFrom 0 rs)) (worldOver w (callsFrom 0 rs))
-hand-possible w rs fresh whole =
+    (w : World) (o : Owners) (rs : List Record) → reset.Learnt tt tt (w .chip) tt → AllPlaces w →
+    ByHand (w .lent .ram) (w .lent .store) (w .lent .song) (w .lent .picture) o rs (madeOver w (callsFrom o 0 rs))
+    (worldOver w (callsFrom o 0 rs))
+hand-possible w o rs fresh whole =
     record {
       start = w;
       fresh = fresh;
       lent = refl;
-      run = run-possible (callsFrom 0 rs) w whole (all-whole 0 rs);
-      calls = calls-over (callsFrom 0 rs) w;
+      run = run-possible (callsFrom o 0 rs) w whole (all-whole o 0 rs);
+      calls = calls-over (callsFrom o 0 rs) w;
     }

@@ -8,6 +8,7 @@ use lib.Dec.{eqb}
 use lib.ListN.{length}
 use Rattle.common.specs.Answers.{badRecord}
 use Rattle.common.specs.Choice.{if}
+use Rattle.editors.specs.declared.Owners.{Owners}
 use Rattle.take.specs.Record.{firstBad}
 use Rattle.take.specs.Open.{openAnswer, recordsOf, Opening}
 use Rattle.replay.specs.declared.Player.{Player}
@@ -32,12 +33,12 @@ module _ (ram store file : List ℕ) where
     unfolding replayAnswer
     lengths-right f = simp (eq-eqb (length ram) 65536 e, eq-eqb (length store) 4096 f)
 
-module _ {ram store places file : List ℕ} {p : Player} {r : Replayed} where
+module _ {ram store song picture file : List ℕ} {o : Owners} {p : Player} {r : Replayed} where
   -- refused: nothing is played
   refused :
       {number first : ℕ} → number ≡ replayAnswer ram store file → (number ≡ 0 → ⊥) →
       first ≡ if (eqb (replayAnswer ram store file) badRecord) (firstBad (recordsOf file)) 0 →
-      Begun (p .chip) (p .lines) (p .counts) → Tells number first p r → Replays ram store places file store places r
+      Begun (p .chip) (p .lines) (p .counts) → Tells number first p r → Replays ram store song picture o file store song picture r
   unfolding outcome
   refused e n f b t =
       let z = ne-eqb (replayAnswer ram store file) 0 (λ d. n (e ∙ d)) in
@@ -48,32 +49,33 @@ module _ {ram store places file : List ℕ} {p : Player} {r : Replayed} where
         lines = t .lines ∙ b .number ∙ simp z;
         counts = t .counts ∙ b .none ∙ simp z;
         store-after = simp z;
-        places-after = simp z;
+        song-after = simp z;
+        picture-after = simp z;
         by-hand = λ d. absurd (n (sym (t .answer) ∙ d));
       }
 
   -- by a length
   pub by-length :
       replayAnswer ram store file ≡ 1 → Begun (p .chip) (p .lines) (p .counts) → Tells 1 0 p r →
-      Replays ram store places file store places r
+      Replays ram store song picture o file store song picture r
   by-length e b t = refused (sym e) (λ z. omega arith) (simp e) b t
 
   -- by the take
   pub by-take :
       {answer first count offset : ℕ} → replayAnswer ram store file ≡ openAnswer file → Opening file answer first count offset →
       (answer ≡ 0 → ⊥) → Begun (p .chip) (p .lines) (p .counts) → Tells answer first p r →
-      Replays ram store places file store places r
-  by-take e o n b t = refused (o .answered ∙ sym e) n (rw e (o .badNumber)) b t
+      Replays ram store song picture o file store song picture r
+  by-take e k n b t = refused (k .answered ∙ sym e) n (rw e (k .badNumber)) b t
 
 -- served: all is played
 pub plays :
-    {ram store places file store' places' : List ℕ} {p : Player} {r : Replayed} {answer first count offset : ℕ} →
+    {ram store song picture file store' song' picture' : List ℕ} {o : Owners} {p : Player} {r : Replayed} {answer first count offset : ℕ} →
     replayAnswer ram store file ≡ openAnswer file → Opening file answer first count offset → answer ≡ 0 →
-    progressBy p ram store' places' ≡ replayed (fresh ram store places) (recordsOf file) → Tells 0 0 p r →
-    Replays ram store places file store' places' r
+    progressBy p ram store' song' picture' ≡ replayed o (fresh ram store song picture) (recordsOf file) → Tells 0 0 p r →
+    Replays ram store song picture o file store' song' picture' r
 unfolding outcome
-plays {ram} {store} {places} {file} e o z s t =
-    let d : replayAnswer ram store file ≡ 0 = e ∙ sym (o .answered) ∙ z in
+plays {ram} {store} {file = file} e k z s t =
+    let d : replayAnswer ram store file ≡ 0 = e ∙ sym (k .answered) ∙ z in
     record {
       answer = t .answer ∙ sym d;
       bad = t .bad ∙ simp d;
@@ -81,6 +83,7 @@ plays {ram} {store} {places} {file} e o z s t =
       lines = t .lines ∙ simp d (ap (λ (q : Progress). q .lines) s);
       counts = t .counts ∙ simp d (ap (λ (q : Progress). q .counts) s);
       store-after = simp d (ap (λ (q : Progress). q .world .lent .store) s);
-      places-after = simp d (ap (λ (q : Progress). q .world .lent .places) s);
+      song-after = simp d (ap (λ (q : Progress). q .world .lent .song) s);
+      picture-after = simp d (ap (λ (q : Progress). q .world .lent .picture) s);
       by-hand = λ y log w h. as-by-hand (rw (t .chip, t .lines, t .counts) s) h;
     }

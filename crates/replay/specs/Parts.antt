@@ -5,6 +5,7 @@ use mathlib.Core.List.{List, [], _∷_}
 use Prim.Native.Nat.{ℕ, zero, suc, _+_, _-_, _^_, _<_}
 use lib.ListN.{getD}
 use Rattle.common.specs.Answers.{done}
+use Rattle.editors.specs.declared.Owners.{Owners}
 use Rattle.sound.specs.declared.Sound.{Sound}
 use Rattle.chip.specs.declared.Crtc.{Crtc}
 use Rattle.chip.specs.declared.Chip.{Chip}
@@ -22,8 +23,9 @@ use Rattle.replay.specs.declared.Replayed.{Replayed}
 use Rattle.replay.specs.Replay.{Progress, noCounts, callBy, later, refusalCounted}
 
 -- how far a replay is, with the lent buffers
-abbrev pub progressBy : Player → List ℕ → List ℕ → List ℕ → Progress
-progressBy p ram store places = record { world = worldOf (p .chip) ram store places; lines = p .lines; counts = p .counts }
+abbrev pub progressBy : Player → List ℕ → List ℕ → List ℕ → List ℕ → Progress
+progressBy p ram store song picture =
+    record { world = worldOf (p .chip) ram store song picture; lines = p .lines; counts = p .counts }
 
 -- a chip with what lines move
 abbrev pub moved : Chip → Sound → Crtc → Bool → Chip
@@ -40,13 +42,13 @@ answerIn w [] = done
 answerIn w (c ∷ cs) = answerTo w c
 
 -- one record: its line is reached, then its call is made
-unfoldable pub recordReplayed : Progress → Record → Progress
-recordReplayed p r =
+unfoldable pub recordReplayed : Owners → Progress → Record → Progress
+recordReplayed o p r =
     let w = withChip (p .world) (linesOn (p .world .lent .ram) (r .line - p .lines) (p .world .chip)) in
     record {
-      world = worldOver w (callBy r);
+      world = worldOver w (callBy o r);
       lines = later (p .lines) (r .line);
-      counts = refusalCounted (p .counts) (answerIn w (callBy r));
+      counts = refusalCounted (p .counts) (answerIn w (callBy o r));
     }
 
 -- no count is at its type's end
@@ -54,9 +56,10 @@ pub record Room (counts : List ℕ) : Type 0 where
   pub each : (i : ℕ) → getD counts i 0 + 1 < 2 ^ 32
 
 -- the call of a record made, whatever RAM there is
-pub record Calls (c : Chip) (store places : List ℕ) (r : Record) (store' places' : List ℕ) (a : Answered) : Type 0 where
-  pub answer : (ram : List ℕ) → a .answer ≡ answerIn (worldOf c ram store places) (callBy r)
-  pub world : (ram : List ℕ) → worldOf (a .chip) ram store' places' ≡ worldOver (worldOf c ram store places) (callBy r)
+pub record Calls (c : Chip) (store song picture : List ℕ) (o : Owners) (r : Record) (store' song' picture' : List ℕ) (a : Answered) : Type 0 where
+  pub answer : (ram : List ℕ) → a .answer ≡ answerIn (worldOf c ram store song picture) (callBy o r)
+  pub world :
+      (ram : List ℕ) → worldOf (a .chip) ram store' song' picture' ≡ worldOver (worldOf c ram store song picture) (callBy o r)
 
 -- a take that opens; its count is a number of 4 bytes
 pub record Opened (file : List ℕ) : Type 0 where

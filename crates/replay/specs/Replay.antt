@@ -1,28 +1,34 @@
--- Request L8: a take played from reset: the calls that its records are, and what they come to.
+-- Requests L8 and L9: a take played from reset: the calls that its records are, and what they come to.
 use mathlib.Core.List.{List, [], _∷_, _++_}
 use Prim.Native.Nat.{ℕ, zero, suc, _+_, _-_}
 use lib.Dec.{eqb}
 use lib.ListN.{getD, set, replicate}
 use Rattle.common.specs.Answers.{done}
 use Rattle.common.specs.Choice.{if}
+use Rattle.editors.specs.declared.Editor.the-variants.{Song, Picture}
+use Rattle.editors.specs.declared.Owners.{Owners}
 use Rattle.sound.specs.declared.Access.the-variants.{Off}
 use Rattle.sound.specs.declared.Accesses.{Accesses}
 use Rattle.chip.specs.Reset.{resetChip}
 use Rattle.take.specs.declared.Record.{Record}
 use Rattle.runs.specs.World.{World, worldOf}
-use Rattle.runs.specs.Call.{Call, bc, bd, gate, write, undo, ack, line}
+use Rattle.runs.specs.Call.{Call, bc, bd, gate, write, undo, ack, line, start}
 use Rattle.runs.specs.Sort.{onLine}
 use Rattle.runs.specs.Run.{Made, madeOver, worldOver}
 
--- the call of a record by its kind: 1 to 3 write to BCxx, BDxx and 7Fxx, 4 writes to the page, 5 acknowledges, 6 takes a write back. No
--- other kind is a call
-abbrev pub callBy : Record → List Call
-callBy r =
+-- the call of a record by its kind: 1 to 3 write to BCxx, BDxx and 7Fxx; by 4 the song editor writes to the page and by 6 it takes a
+-- write back, by 7 and 8 the picture editor does; 5 acknowledges; 9 starts, with the owners that are lent. No other kind is a call
+abbrev pub callBy : Owners → Record → List Call
+callBy o r =
     if (eqb (r .kind) 1) (bc (r .value) ∷ [])
     (if (eqb (r .kind) 2) (bd (r .value) ∷ [])
     (if (eqb (r .kind) 3) (gate (r .value) ∷ [])
-    (if (eqb (r .kind) 4) (write (r .address) (r .value) ∷ [])
-    (if (eqb (r .kind) 5) (ack ∷ []) (if (eqb (r .kind) 6) (undo ∷ []) [])))))
+    (if (eqb (r .kind) 4) (write Song (r .address) (r .value) ∷ [])
+    (if (eqb (r .kind) 5) (ack ∷ [])
+    (if (eqb (r .kind) 6) (undo Song ∷ [])
+    (if (eqb (r .kind) 7) (write Picture (r .address) (r .value) ∷ [])
+    (if (eqb (r .kind) 8) (undo Picture ∷ [])
+    (if (eqb (r .kind) 9) (start o ∷ []) []))))))))
 
 -- a line step with the processor off the 8255 for each channel; so many of them before other calls
 abbrev pub off : Accesses
@@ -37,9 +43,9 @@ abbrev pub later : ℕ → ℕ → ℕ
 later from to = from + (to - from)
 
 -- the calls of all records, in order, from a line number on: before each one lines until its number is reached
-unfoldable pub callsFrom : ℕ → List Record → List Call
-callsFrom at [] = []
-callsFrom at (r ∷ rs) = linesThen (r .line - at) (callBy r ++ callsFrom (later at (r .line)) rs)
+unfoldable pub callsFrom : Owners → ℕ → List Record → List Call
+callsFrom o at [] = []
+callsFrom o at (r ∷ rs) = linesThen (r .line - at) (callBy o r ++ callsFrom o (later at (r .line)) rs)
 
 -- a refusal is counted at its number; the numbers go up to 23
 abbrev pub noCounts : List ℕ
@@ -57,15 +63,15 @@ abbrev pub countsOver : List ℕ → List Made → List ℕ
 countsOver counts [] = counts
 countsOver counts (e ∷ es) = countsOver (onLine (λ a. counts) (refusalCounted counts (e .reply .answer)) (e .asks)) es
 
--- how far a replay is: the chip with the lent RAM, store and places, the lines stepped since reset, and those counts
+-- how far a replay is: the chip with the lent RAM, store and places of both records, the lines stepped since reset, and those counts
 pub record Progress : Type 0 where
   pub world : World
   pub lines : ℕ
   pub counts : List ℕ
 
 -- at reset
-abbrev pub fresh : List ℕ → List ℕ → List ℕ → Progress
-fresh ram store places = record { world = worldOf resetChip ram store places; lines = 0; counts = noCounts }
+abbrev pub fresh : List ℕ → List ℕ → List ℕ → List ℕ → Progress
+fresh ram store song picture = record { world = worldOf resetChip ram store song picture; lines = 0; counts = noCounts }
 
 -- after calls
 abbrev pub over : Progress → List Call → Progress
@@ -77,5 +83,5 @@ over p cs =
     }
 
 -- after all records
-unfoldable pub replayed : Progress → List Record → Progress
-replayed p rs = over p (callsFrom (p .lines) rs)
+unfoldable pub replayed : Owners → Progress → List Record → Progress
+replayed o p rs = over p (callsFrom o (p .lines) rs)

@@ -5,6 +5,8 @@ use common::answer::DONE;
 use common::answer::WRONG_LENGTH;
 use common::size::RAM;
 use common::size::STORE;
+use editors::Editor;
+use editors::Owners;
 use reader::Found;
 use sound::Access;
 use sound::Accesses;
@@ -96,8 +98,15 @@ fn no_call(chip: Chip) -> Answered
 }
 
 // The call that a record names.
-fn called(chip: Chip, store: &mut [u8], places: &mut [u32; 256], entry: Record) -> Answered
-    ensures { λ r. ⌜ Calls chip (now (store .entry)) (now (places .entry)) entry (now (store .exit)) (now (places .exit)) r ⌝ }
+fn called(
+    chip: Chip,
+    store: &mut [u8],
+    song: &mut [u32; 256],
+    picture: &mut [u32; 256],
+    owners: Owners,
+    entry: Record,
+) -> Answered
+    ensures { λ r. ⌜ Calls chip (now (store .entry)) (now (song .entry)) (now (picture .entry)) owners entry (now (store .exit)) (now (song .exit)) (now (picture .exit)) r ⌝ }
 {
     let kind = entry.kind;
     let value = entry.value;
@@ -105,9 +114,12 @@ fn called(chip: Chip, store: &mut [u8], places: &mut [u32; 256], entry: Record) 
         1 => chip::ports::write_bc(chip, value),
         2 => chip::ports::write_bd(chip, value),
         3 => chip::ports::write_7f(chip, value),
-        4 => page::page_write(chip, store, places, entry.address, value),
+        4 => page::page_write(chip, Editor::Song, store, song, entry.address, value),
         5 => acknowledged(chip),
-        6 => page::undo(chip, store, places),
+        6 => page::undo(chip, Editor::Song, store, song),
+        7 => page::page_write(chip, Editor::Picture, store, picture, entry.address, value),
+        8 => page::undo(chip, Editor::Picture, store, picture),
+        9 => chip::table::start(chip, owners),
         _ => no_call(chip),
     }
 }
@@ -131,14 +143,16 @@ fn record_replayed(
     p: Player,
     ram: &[u8],
     store: &mut [u8],
-    places: &mut [u32; 256],
+    song: &mut [u32; 256],
+    picture: &mut [u32; 256],
+    owners: Owners,
     entry: Record,
 ) -> Player
     requires { ⌜ (length (now ram) ≡ 65536) × Room (p .counts) ⌝ }
-    ensures { λ r. ⌜ progressBy r (now (ram .entry)) (now (store .exit)) (now (places .exit)) ≡ recordReplayed (progressBy p (now (ram .entry)) (now (store .entry)) (now (places .entry))) entry ⌝ }
+    ensures { λ r. ⌜ progressBy r (now (ram .entry)) (now (store .exit)) (now (song .exit)) (now (picture .exit)) ≡ recordReplayed owners (progressBy p (now (ram .entry)) (now (store .entry)) (now (song .entry)) (now (picture .entry))) entry ⌝ }
 {
     let chip = lines_on(p.chip, ram, p.lines, entry.line);
-    let told = called(chip, store, places, entry);
+    let told = called(chip, store, song, picture, owners, entry);
     let before = p.counts;
     let counts = refusal_counted(before, told.answer);
     let after = told.chip;
@@ -161,9 +175,16 @@ fn begun() -> Player
 }
 
 // Every record of a take that opens, from reset, as a reader over it hands them out.
-fn records(ram: &[u8], store: &mut [u8], places: &mut [u32; 256], file: &[u8]) -> Player
+fn records(
+    ram: &[u8],
+    store: &mut [u8],
+    song: &mut [u32; 256],
+    picture: &mut [u32; 256],
+    owners: Owners,
+    file: &[u8],
+) -> Player
     requires { ⌜ (length (now ram) ≡ 65536) × Opened (now file) ⌝ }
-    ensures { λ r. ⌜ progressBy r (now (ram .entry)) (now (store .exit)) (now (places .exit)) ≡ replayed (fresh (now (ram .entry)) (now (store .entry)) (now (places .entry))) (recordsOf (now (file .entry))) ⌝ }
+    ensures { λ r. ⌜ progressBy r (now (ram .entry)) (now (store .exit)) (now (song .exit)) (now (picture .exit)) ≡ replayed owners (fresh (now (ram .entry)) (now (store .entry)) (now (song .entry)) (now (picture .entry))) (recordsOf (now (file .entry))) ⌝ }
 {
     let mut at = reader::first_place(file);
     let mut p = begun();
@@ -173,7 +194,7 @@ fn records(ram: &[u8], store: &mut [u8], places: &mut [u32; 256], file: &[u8]) -
         let Found::One(entry) = found else {
             return p;
         };
-        p = record_replayed(p, ram, store, places, entry);
+        p = record_replayed(p, ram, store, song, picture, owners, entry);
         at = step.at;
     }
 }
@@ -193,9 +214,16 @@ fn told(answer: u8, bad: usize, p: Player) -> Replayed
     }
 }
 
-// Plays a take from reset, on lent RAM, pixel store and places of the undo record.
-pub fn replay(ram: &[u8], store: &mut [u8], places: &mut [u32; 256], file: &[u8]) -> Replayed
-    ensures { λ r. ⌜ Replays (now (ram .entry)) (now (store .entry)) (now (places .entry)) (now (file .entry)) (now (store .exit)) (now (places .exit)) r ⌝ }
+// Plays a take from reset, on lent RAM, pixel store and places of both editors' undo records. Every start in it gives these owners.
+pub fn replay(
+    ram: &[u8],
+    store: &mut [u8],
+    song: &mut [u32; 256],
+    picture: &mut [u32; 256],
+    owners: Owners,
+    file: &[u8],
+) -> Replayed
+    ensures { λ r. ⌜ Replays (now (ram .entry)) (now (store .entry)) (now (song .entry)) (now (picture .entry)) owners (now (file .entry)) (now (store .exit)) (now (song .exit)) (now (picture .exit)) r ⌝ }
 {
     if ram.len() != RAM {
         return told(WRONG_LENGTH, 0, begun());
@@ -208,6 +236,6 @@ pub fn replay(ram: &[u8], store: &mut [u8], places: &mut [u32; 256], file: &[u8]
     if answer != DONE {
         return told(answer, opened.bad, begun());
     }
-    let end = records(ram, store, places, file);
+    let end = records(ram, store, song, picture, owners, file);
     told(DONE, 0, end)
 }

@@ -1,4 +1,4 @@
--- Request L7: a record of a take, its 8 bytes, and which records are bad.
+-- Requests L7 and L9: a record of a take, its 8 bytes, and which records are bad.
 use mathlib.Core.Bool.{Bool, not}
 use mathlib.Core.List.{List, [], _∷_, _++_}
 use Prim.Native.Nat.{ℕ, suc, _/_, _%_, _^_, _<_}
@@ -40,17 +40,18 @@ unpacked n =
 abbrev pub recordIn : List ℕ → Record
 recordIn bytes = unpacked (numberOf (take 8 bytes))
 
--- the kinds are 1 to 6: BCxx, BDxx, 7Fxx and page write, acknowledge, undo
+-- the kinds are 1 to 9: BCxx, BDxx and 7Fxx write; the song editor's page write; acknowledge; the song editor's undo; the picture
+-- editor's page write and undo; the start
 abbrev pub knownKind : ℕ → Bool
-knownKind k = both (leb 1 k) (leb k 6)
+knownKind k = both (leb 1 k) (leb k 9)
 
--- a page write alone has an address
+-- a page write alone has an address, either editor's
 abbrev pub hasAddress : ℕ → Bool
-hasAddress k = eqb k 4
+hasAddress k = either (eqb k 4) (eqb k 7)
 
--- acknowledge and undo have no value
+-- acknowledge, both editors' undo and the start have no value
 abbrev pub hasValue : ℕ → Bool
-hasValue k = not (either (eqb k 5) (eqb k 6))
+hasValue k = not (either (either (eqb k 5) (eqb k 6)) (either (eqb k 8) (eqb k 9)))
 
 -- a part that a kind does not have is 0
 abbrev pub absent : Bool → ℕ → Bool

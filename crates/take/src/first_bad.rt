@@ -11,13 +11,16 @@ ghost use Rattle.take.specs.Open.{recordsFrom};
 fn known_kind(kind: u8) -> bool
     ensures { λ r. ⌜ r ≡ knownKind kind ⌝ }
 {
-    1 <= kind && kind <= 6
+    1 <= kind && kind <= 9
 }
 
 fn has_address(kind: u8) -> bool
     ensures { λ r. ⌜ r ≡ hasAddress kind ⌝ }
 {
-    kind == 4
+    if kind == 4 {
+        return true;
+    }
+    kind == 7
 }
 
 fn has_value(kind: u8) -> bool
@@ -26,7 +29,13 @@ fn has_value(kind: u8) -> bool
     if kind == 5 {
         return false;
     }
-    kind != 6
+    if kind == 6 {
+        return false;
+    }
+    if kind == 8 {
+        return false;
+    }
+    kind != 9
 }
 
 // Whether a part is 0, where the kind does not have it.

@@ -14,9 +14,9 @@ called-requires c κs = search needs
 
 refusal-counted-requires : tie.Need-refusal-counted-requires
 refusal-counted-requires c κs =
-    let s = c .before .before .before .before .before .before .before .before .before in
+    let s = c .before .before .before .before .before .before .before .before .before .before in
     let e = c .before .before .before .called .ensures in
-    (rw (e .answer (s .args .ram .now)) (place-small _ (callBy (s .args .entry))), s .pre .1)
+    (rw (e .answer (s .args .ram .now)) (place-small _ (callBy (s .args .owners) (s .args .entry))), s .pre .1)
 
 later-requires : tie.Need-later-requires
 later-requires c κs = search needs
@@ -28,7 +28,7 @@ returns : tie.Need-returns
 returns c =
     let n = c .before .before in
     let k = n .before .before .before .before in
-    let o = k .before .before .before in
+    let o = k .before .before .before .before in
     let s = o .before .before .before .args in
     one-replayed (s .ram .now) (s .p) (o .lines-on .ensures) (k .called .ensures) (c .later .ensures) (n .refusal-counted .ensures)
 

@@ -12,12 +12,12 @@ use Rattle.replay.proofs.records.Statement.{statement}
 use Rattle.replay.proofs.records.Tie as tie
 
 abbrev Inv-loop : tie.InvT-loop
-Inv-loop ram store₀ places₀ file at₀ p₀ store places at p =
+Inv-loop ram store₀ song₀ picture₀ owners file at₀ p₀ store song picture at p =
     (length store ≡ length store₀)
-    × Playing file (replayed (fresh ram store₀ places₀) (recordsOf file)) (progressBy p ram store places) at
+    × Playing owners file (replayed owners (fresh ram store₀ song₀ picture₀) (recordsOf file)) (progressBy p ram store song picture) at
 
 abbrev μ-loop : tie.MeasureT-loop
-μ-loop ram store₀ places₀ file at₀ p₀ store places at p = length file - at
+μ-loop ram store₀ song₀ picture₀ owners file at₀ p₀ store song picture at p = length file - at
 
 first-place-requires : tie.Need-first-place-requires Inv-loop μ-loop
 first-place-requires c κs = search needs
@@ -31,7 +31,7 @@ loop-holds c =
     let b = c .begun .ensures in (
       refl,
       rw (b .chip, b .number, b .none)
-          (starts (s .args .ram .now) (s .args .store .now) (s .args .places .now) (s .pre .0) (s .pre .1) (c .before .first-place .ensures)),
+          (starts (s .args .ram .now) (s .args .store .now) (s .args .song .now) (s .args .picture .now) (s .args .owners) (s .pre .0) (s .pre .1) (c .before .first-place .ensures)),
     )
 
 advance-requires : tie.Need-advance-requires Inv-loop μ-loop
@@ -54,14 +54,14 @@ returns c =
 
 record-replayed-requires : tie.Need-record-replayed-requires Inv-loop μ-loop
 record-replayed-requires c κs =
-    let f = c .before .before .before in
+    let f = c .before .before .before .before in
     let a = f .before .before in
     let l = a .before .loop .inv .1 in
     (search needs, room-left l (found-is l (a .advance .ensures) (f .found .given .1)))
 
 loop-less : tie.Need-loop-less Inv-loop μ-loop
 loop-less c =
-    let f = c .before .before .before .before .before .before in
+    let f = c .before .before .before .before .before .before .before in
     let a = f .before .before in
     let l = a .before .loop .inv .1 in
     let o = place-on l (found-is l (a .advance .ensures) (f .found .given .1)) in
@@ -70,7 +70,7 @@ loop-less c =
 loop-again : tie.Need-loop-again Inv-loop μ-loop
 loop-again c =
     let n = c .before .before in
-    let f = n .before .before .before .before in
+    let f = n .before .before .before .before .before in
     let a = f .before .before in
     let l = a .before .loop .inv .1 in (
       search needs,

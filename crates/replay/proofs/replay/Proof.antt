@@ -61,7 +61,7 @@ returns-3 c =
 
 records-requires : tie.Need-records-requires
 records-requires c κs =
-    let t = c .before .before in
+    let t = c .before .before .before in
     let o = t .before in
     (o .before .before .if1 .left, opened (bytes (o .before)) (o .open .ensures) (t .if3 .left))
 
@@ -74,7 +74,7 @@ same-length c = search needs
 returns-4 : tie.Need-returns-4
 returns-4 c =
     let n = c .before .before .before in
-    let t = n .before .before .before in
+    let t = n .before .before .before .before in
     let o = t .before in
     plays (right (o .before)) (o .open .ensures) (t .if3 .left) (n .records .ensures) (c .told4 .ensures)
 

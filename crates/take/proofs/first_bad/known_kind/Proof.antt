@@ -1,3 +1,4 @@
+-- `take::first_bad::known_kind`: a test each.
 use borrow.Author.Needs.{needs}
 use borrow.Author.Tests.{le-leb, lt-leb}
 use Prim.Native.Nat.{_≤_, _<_}

@@ -1,0 +1,13 @@
+-- `take::first_bad::has_address`: a test each.
+use borrow.Author.Tests.{eq-eqb, ne-eqb}
+use Rattle.take.proofs.first_bad.has_address.Statement.{statement}
+use Rattle.take.proofs.first_bad.has_address.Tie as tie
+
+returns : tie.Need-returns
+returns c = simp (eq-eqb _ _ (c .if1 .taken))
+
+returns-2 : tie.Need-returns-2
+returns-2 c = simp (ne-eqb _ _ (c .if1 .left))
+
+pub has-address-spec : {M : Type 1} → statement M
+has-address-spec = tie.close (tie.spec returns returns-2)
