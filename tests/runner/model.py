@@ -5,6 +5,8 @@ A Chip is played by play(ram, store, records); it answers the lines that the pro
 KEY = [0xFF, 0x77, 0xB3, 0x51, 0xA8, 0xD4, 0x62, 0x39, 0x9C, 0x46, 0x2B, 0x15, 0x8A]
 KEPT = {1: 8, 4: 7, 5: 5, 6: 7, 9: 5, 12: 6, 13: 8}
 CHARACTERS = '0123456789abcdefghijklmnopqrstuv'
+# an editor's number; the song editor's is 0
+PICTURE = 1
 
 
 class Channel:
@@ -29,7 +31,8 @@ class Chip:
         self.channels = [Channel() for _ in range(3)]
         self.psg = [0] * 16
         self.raster = self.last_raster = False
-        self.record = []
+        self.records = [[], []]
+        self.table = None
 
     # lock and ports
     def bc(self, byte):
@@ -61,17 +64,55 @@ class Chip:
             return 0
         return 3
 
+    # the table: numbers whose bit n says whether palette entry, sprite or channel n is the picture editor's
+    def start(self, palette, sprites, channels):
+        self.table = palette, sprites, channels
+        self.records = [[], []]
+        return 0
+
+    # may this editor write there, where a write can be undone
+    def owns(self, editor, a):
+        if self.table is None:
+            return True
+        palette, sprites, channels = self.table
+        if a < 0x5000:
+            owner = sprites >> (a - 0x4000) // 256 & 1
+        elif a < 0x6080:
+            owner = sprites >> (a - 0x6000) // 8 & 1
+        elif a < 0x6440:
+            owner = palette >> (a - 0x6400) // 2 & 1
+        elif a == 0x6805:
+            return False
+        elif a < 0x6805:
+            owner = PICTURE
+        else:
+            owner = channels >> (a - 0x6C00) // 4 & 1
+        return owner == editor
+
+    def own_channels(self, editor):
+        return [n for n in range(3) if self.owns(editor, 0x6C00 + 4 * n)]
+
     # the register page
-    def write(self, store, a, byte):
+    def write(self, editor, store, a, byte):
         if not 0x4000 <= a < 0x8000 or not self.mapped:
             return 2
+        if a == 0x6C0F:
+            self.control(editor, byte)
+            return 0
         before = self.contents(store, a)
-        if before is None and a != 0x6C0F:
+        if before is None:
             return 9 if 0x6808 <= a < 0x6810 else 3
-        if before is not None:
-            self.record = (self.record + [(a, before)])[-256:]
+        if not self.owns(editor, a):
+            return 15
+        self.records[editor] = (self.records[editor] + [(a, before)])[-256:]
         self.put(store, a, byte & 15 if a < 0x5000 else byte)
         return 0
+
+    def control(self, editor, byte):
+        for n in self.own_channels(editor):
+            self.channels[n].enabled = bool(byte >> n & 1)
+            if byte >> 6 - n & 1:
+                self.channels[n].interrupt = False
 
     def put(self, store, a, byte):
         if a < 0x5000:
@@ -94,7 +135,7 @@ class Chip:
             self.video[a - 0x6800] = byte & 63 if a == 0x6802 else byte
         elif a == 0x6805:
             self.ivr = byte
-        elif a < 0x6C0C:
+        else:
             c, place = self.channels[(a - 0x6C00) // 4], a % 4
             if place == 0:
                 c.address = c.address & 0xFF00 | byte & 0xFE
@@ -102,11 +143,6 @@ class Chip:
                 c.address = c.address & 0xFF | byte << 8
             else:
                 c.prescale = byte
-        else:
-            for n in range(3):
-                self.channels[n].enabled = bool(byte >> n & 1)
-                if byte >> 6 - n & 1:
-                    self.channels[n].interrupt = False
 
     # what a register holds, or None where no write can be undone
     def contents(self, store, a):
@@ -126,10 +162,10 @@ class Chip:
             return (c.address & 0xFE, c.address >> 8, c.prescale)[a % 4]
         return None
 
-    def undo(self, store):
-        if not self.record:
+    def undo(self, editor, store):
+        if not self.records[editor]:
             return 10
-        self.put(store, *self.record.pop())
+        self.put(store, *self.records[editor].pop())
         return 0
 
     def export(self):
@@ -140,9 +176,10 @@ class Chip:
                 out += [a & 255, a >> 8, held]
         return '0 ' + bytes(out).hex()
 
-    def dcsr(self):
-        value = 128 if self.last_raster else 0
-        for n, c in enumerate(self.channels):
+    def dcsr(self, editor):
+        value = 128 if self.last_raster and self.table is None else 0
+        for n in self.own_channels(editor):
+            c = self.channels[n]
             value += (64 >> n if c.interrupt else 0) + (1 << n if c.enabled else 0)
         return value
 
@@ -154,7 +191,7 @@ class Chip:
         y = self.sprites[n][1]
         return y - 512 if y >= 256 else y
 
-    def read(self, store, a, bus):
+    def read(self, editor, store, a, bus):
         if not 0x4000 <= a < 0x8000 or not self.mapped:
             return 2, 0
         if a < 0x5000:
@@ -170,7 +207,7 @@ class Chip:
         if 0x6808 <= a < 0x6810:
             return 0, 0
         if 0x6C00 <= a < 0x6C10:
-            return 0, self.dcsr()
+            return 0, self.dcsr(editor)
         return 0, bus
 
     # interrupts
@@ -329,7 +366,7 @@ def forecast(ram, start, prescale):
 
 
 def play(ram, store, records, drawing=True):
-    ram, store, chip, out = bytearray(ram), bytearray(store), Chip(), []
+    ram, store, chip, waiting, out = bytearray(ram), bytearray(store), Chip(), bytearray(16), []
     for i in range(0, len(records) // 4 * 4, 4):
         op, low, high, value = records[i:i + 4]
         a = low + 256 * high
@@ -339,12 +376,12 @@ def play(ram, store, records, drawing=True):
             out.append('%d' % chip.data(value))
         elif op == ord('G'):
             out.append('%d' % chip.gate(value))
-        elif op == ord('W'):
-            out.append('%d' % chip.write(store, a, value))
-        elif op == ord('R'):
-            out.append('%d %d' % chip.read(store, a, value))
-        elif op == ord('U'):
-            out.append('%d' % chip.undo(store))
+        elif op in b'Ww':
+            out.append('%d' % chip.write(b'Ww'.index(op), store, a, value))
+        elif op in b'Rr':
+            out.append('%d %d' % chip.read(b'Rr'.index(op), store, a, value))
+        elif op in b'Uu':
+            out.append('%d' % chip.undo(b'Uu'.index(op), store))
         elif op == ord('E'):
             out.append(chip.export())
         elif op == ord('A'):
@@ -359,8 +396,15 @@ def play(ram, store, records, drawing=True):
         elif op == ord('M'):
             ram[a] = value
             out.append('0')
+        elif op == ord('T'):
+            if a < 16:
+                waiting[a] = value
+            out.append('0')
+        elif op == ord('S'):
+            palette, sprites = int.from_bytes(waiting[:4], 'little'), int.from_bytes(waiting[4:6], 'little')
+            out.append('%d' % chip.start(palette, sprites, waiting[6]))
         elif op == ord('Z'):
-            chip = Chip()
+            chip, waiting = Chip(), bytearray(16)
             out.append('0')
         else:
             out.append('bad')

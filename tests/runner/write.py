@@ -53,6 +53,63 @@ PROCESSOR = [
     (0x21, 31), (0x22, 32), (0x24, 31), (0x25, 32), (0x26, 33), (0x28, 32), (0x29, 33), (0x2A, 34), (0x3F, 34),
     (0x40, 28), (0x80, 28), (0xC0, 28), (0xD5, 31), (0xFF, 34),
 ]
+MAPPED = [(rec('B', 0, byte), '0') for byte in UNLOCK] + [(rec('G', 0, 0xB8), '0')]
+# after a reset: both editors at one chip
+EDITORS = MAPPED + [
+    # no table: each writes and reads all, IVR too, and takes back its own writes
+    (rec('W', 0x6400, 0x11), '0'), (rec('w', 0x6400, 0x22), '0'), (rec('R', 0x6400), '0 34'), (rec('r', 0x6400), '0 34'),
+    (rec('w', 0x6805, 0x41), '0'), (rec('W', 0x6805, 0x51), '0'), (rec('U'), '0'), (rec('E'), exported({0x6400: 0x22, 0x6805: 0x41})),
+    (rec('u'), '0'), (rec('U', 0x6400, 1), '0'), (rec('R', 0x6400), '0 0'), (rec('u', 0x6400, 1), '0'), (rec('r', 0x6400), '0 17'),
+    (rec('E'), exported({0x6400: 0x11, 0x6805: 1})), (rec('U'), '10'), (rec('u'), '10'),
+    # palette entries 1, 8, 16, 31, sprites 2 and 15, channel 1 for the picture editor; there are 16 places, of which the last 9 say
+    # nothing, and so do bits 3 to 7 of the channels
+    (rec('T', 0, 0x02), '0'), (rec('T', 1, 0x01), '0'), (rec('T', 2, 0x01), '0'), (rec('T', 3, 0x80), '0'), (rec('T', 4, 0x04), '0'),
+    (rec('T', 5, 0x80), '0'), (rec('T', 6, 0xFA), '0'), (rec('T', 7, 0xFF), '0'), (rec('T', 15, 0xFF), '0'), (rec('T', 16, 0xFF), '0'),
+    (rec('T', 0x0100, 0xFF), '0'), (rec('T', 0xFFFF, 0xFF), '0'),
+    # waiting bytes are no table yet; the start empties both records
+    (rec('W', 0x6402, 9), '0'), (rec('w', 0x6404, 8), '0'), (rec('S', 0x1234, 0x56), '0'), (rec('U'), '10'), (rec('u'), '10'),
+    # palette
+    (rec('W', 0x6400, 1), '0'), (rec('w', 0x6400, 2), '15'), (rec('W', 0x6402, 3), '15'), (rec('w', 0x6402, 4), '0'),
+    (rec('W', 0x6403, 5), '15'), (rec('w', 0x6403, 0xF6), '0'), (rec('W', 0x6404, 7), '0'), (rec('w', 0x6405, 7), '15'),
+    (rec('w', 0x6410, 8), '0'), (rec('W', 0x6410, 8), '15'), (rec('w', 0x6420, 9), '0'), (rec('W', 0x6420, 9), '15'),
+    (rec('w', 0x643F, 10), '0'), (rec('W', 0x643F, 11), '15'), (rec('W', 0x643D, 12), '0'), (rec('w', 0x643D, 13), '15'),
+    # sprites, their mirrors and pixels; a read is refused to nobody
+    (rec('W', 0x6010, 1), '15'), (rec('w', 0x6010, 2), '0'), (rec('W', 0x6017, 3), '15'), (rec('w', 0x6017, 4), '0'),
+    (rec('W', 0x600F, 5), '0'), (rec('w', 0x600F, 6), '15'), (rec('W', 0x6078, 7), '15'), (rec('w', 0x6078, 8), '0'),
+    (rec('W', 0x41FF, 9), '0'), (rec('w', 0x41FF, 10), '15'), (rec('W', 0x4200, 11), '15'), (rec('w', 0x4200, 0xFC), '0'),
+    (rec('w', 0x4300, 1), '15'), (rec('w', 0x4FFF, 2), '0'), (rec('R', 0x4200), '0 12'), (rec('r', 0x41FF), '0 9'),
+    (rec('R', 0x6010), '0 2'), (rec('r', 0x6404), '0 7'),
+    # the screen is the picture editor's, IVR neither's, and what can't be written nobody's
+    (rec('W', 0x6800, 5), '15'), (rec('w', 0x6800, 5), '0'), (rec('W', 0x6801, 1), '15'), (rec('W', 0x6803, 1), '15'),
+    (rec('W', 0x6804, 1), '15'), (rec('w', 0x6804, 0x10), '0'), (rec('W', 0x6805, 3), '15'), (rec('w', 0x6805, 3), '15'),
+    (rec('W', 0x6808, 1), '9'), (rec('w', 0x680F, 1), '9'), (rec('W', 0x6806, 1), '3'), (rec('w', 0x6C03, 1), '3'),
+    (rec('W', 0x6C0C, 1), '3'), (rec('w', 0x6C0E, 1), '3'), (rec('W', 0x3FFF, 1), '2'), (rec('w', 0x8000, 1), '2'),
+    # the list at 9000h on channels 0 and 1, each by its owner; a DCSR write reaches the writer's channels alone
+    (rec('W', 0x6C01, 0x90), '0'), (rec('w', 0x6C01, 0xA0), '15'), (rec('W', 0x6C05, 0xA0), '15'), (rec('w', 0x6C05, 0x90), '0'),
+    (rec('W', 0x6C06, 1), '15'), (rec('W', 0x6C0A, 1), '0'), (rec('w', 0x6C0A, 1), '15'),
+    (rec('W', 0x6C0F, 7), '0'), (rec('R', 0x6C0F), '0 5'), (rec('r', 0x6C0F), '0 0'), (rec('w', 0x6C0F, 2), '0'),
+    (rec('R', 0x6C00), '0 5'), (rec('r', 0x6C0E), '0 2'), (rec('W', 0x6C0F, 1), '0'), (rec('R', 0x6C0F), '0 1'), (rec('r', 0x6C0F), '0 2'),
+    (rec('L'), '0 5 repeat 5 repeat 5 -'), (rec('L'), '0 5 control 49 control 49 -'),
+    (rec('R', 0x6C0F), '0 64'), (rec('r', 0x6C0F), '0 32'), (rec('W', 0x6C0F, 0x70), '0'), (rec('R', 0x6C0F), '0 0'),
+    (rec('r', 0x6C0F), '0 32'), (rec('w', 0x6C0F, 0x20), '0'), (rec('r', 0x6C0F), '0 0'),
+    # a raster interrupt on the line with RC 1; bit 7 is not shown while a table holds
+    (rec('B', 0, 9), '0'), (rec('D', 0, 7), '0'), (rec('w', 0x6800, 1), '0'), (rec('L'), '0 1 - - -'), (rec('L'), '0 1 - - -'),
+    (rec('A'), '0 6'), (rec('R', 0x6C0F), '0 0'), (rec('r', 0x6C0F), '0 0'),
+    # each takes back its own: the song editor 1 to 6C0Ah and 90h to 6C01h, the picture editor 1 to 6800h, 90h to 6C05h, 10h to 6804h
+    (rec('U'), '0'), (rec('u'), '0'), (rec('U'), '0'), (rec('u'), '0'), (rec('u'), '0'),
+    (rec('E'), exported({0x6400: 1, 0x6402: 4, 0x6403: 6, 0x6404: 7, 0x6410: 8, 0x6420: 9, 0x643D: 12, 0x643F: 10, 0x600C: 5, 0x6010: 2,
+                         0x6014: 4, 0x6078: 8, 0x6800: 5, 0x6805: 1, 0x6C00: 2, 0x6C04: 2})),
+    # what waits stays after a start: the next one gives channel 1 to the song editor and leaves the rest
+    (rec('T', 6, 0), '0'), (rec('w', 0x6C05, 0x80), '0'), (rec('S'), '0'), (rec('u'), '10'), (rec('w', 0x6C05, 0), '15'),
+    (rec('W', 0x6C05, 0), '0'), (rec('W', 0x6402, 0), '15'), (rec('W', 0x6010, 0), '15'), (rec('U'), '0'), (rec('U'), '10'),
+    # a reset ends the table and clears what waits: all is the song editor's then, but for the screen
+    (rec('T', 0, 0xFF), '0'), (rec('Z'), '0'), (rec('w', 0x6400, 1), '2'), (rec('W', 0x6805, 1), '2'),
+] + MAPPED + [
+    (rec('w', 0x6805, 3), '0'), (rec('w', 0x6400, 1), '0'), (rec('S'), '0'), (rec('w', 0x6400, 2), '15'), (rec('W', 0x6402, 3), '0'),
+    (rec('w', 0x6010, 4), '15'), (rec('w', 0x4F00, 5), '15'), (rec('W', 0x6C05, 6), '0'), (rec('w', 0x6C05, 6), '15'),
+    (rec('w', 0x6803, 7), '0'), (rec('W', 0x6803, 8), '15'), (rec('w', 0x6C0F, 7), '0'), (rec('R', 0x6C0F), '0 0'), (rec('u'), '0'),
+    (rec('u'), '10'), (rec('U'), '0'), (rec('E'), exported({0x6400: 1, 0x6402: 3, 0x6805: 3})),
+]
 # the record and the line that answers it
 STORED = [
     # the forecast, and the page before it is mapped
@@ -118,8 +175,9 @@ STORED = [
     (rec('W', 0x6C00, 0x02), '0'), (rec('W', 0x6C01, 0xA0), '0'), (rec('W', 0x6C0F, 1), '0'),
     (rec('L', 0, 0x3F), '0 3 nothing 291 - -'),
     # no call, and reset
-    (rec('x', 0x1234, 5), 'bad'), (rec('b', 0, 9), 'bad'), (rec('\0'), 'bad'), (rec('u'), 'bad'), (rec('e'), 'bad'),
-    (rec('Z'), '0'), (rec('R', 0x4000, 0x12), '2 0'), (rec('L'), '0 1 - - -'), (rec('U'), '10'),
+    (rec('x', 0x1234, 5), 'bad'), (rec('b', 0, 9), 'bad'), (rec('\0'), 'bad'), (rec('e'), 'bad'), (rec('s'), 'bad'), (rec('t'), 'bad'),
+    (rec('Z'), '0'), (rec('R', 0x4000, 0x12), '2 0'), (rec('L'), '0 1 - - -'), (rec('U'), '10'), (rec('u'), '10'),
+] + EDITORS + [
     (b'L\0\0', 'short'),
 ]
 
@@ -168,6 +226,24 @@ def mixed(seed, count):
     return ram_of({0: words}), records[:4 * count]
 
 
+def editors(seed, count):
+    """The same with page calls of both editors, and starts, the first of which finds that nothing waits. Now and then the picture editor
+    writes more in a row than can be undone."""
+    r = random.Random(seed)
+    ram, records = mixed(seed, count)
+    out = rec('S')
+    for i in range(0, len(records), 4):
+        op = records[i:i + 1]
+        out += (op.lower() if op in b'WRU' and r.randrange(2) else op) + records[i + 1:i + 4]
+        if r.randrange(10) == 0:
+            out += rec('T', r.randrange(18), r.randrange(256))
+        if r.randrange(40) == 0:
+            out += rec('S', r.randrange(65536), r.randrange(256))
+        if r.randrange(1500) == 0:
+            out += b''.join(rec('w', 0x6400 + r.randrange(64), r.randrange(256)) for _ in range(600)) + rec('u') * 300 + rec('E')
+    return ram, out[:4 * count]
+
+
 def pair(name, ram, records):
     with open(os.path.join(HERE, name + '.in'), 'wb') as f:
         f.write(ram + STORE + records)
@@ -179,3 +255,4 @@ stored()
 pair('bad', ram_of(LISTS), rec('a') + rec('M', 0x8000, 0x77) + rec('?', 0x8000, 1) + rec('F', 0x8000, 0) + b'\xff\0\x80\0')
 # a block of input has 16,384 records
 pair('mixed', *mixed(1, 20000))
+pair('editors', *editors(7, 8000))

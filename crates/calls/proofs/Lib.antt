@@ -1,2 +1,2 @@
--- Laws of a record served.
+-- Laws of an order served.
 pub mod Serving

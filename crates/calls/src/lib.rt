@@ -2,6 +2,8 @@
 use chip::Answered;
 use chip::Chip;
 use common::answer::DONE;
+use editors::Editor;
+use editors::Owners;
 use sound::Accesses;
 use text::dump;
 use text::lines;
@@ -11,15 +13,16 @@ ghost use mathlib.Core.List.{List};
 ghost use Prim.Native.Nat.{ℕ, _+_, _≤_};
 ghost use lib.ListN.{length};
 ghost use Rattle.common.specs.Answers.{done};
+ghost use Rattle.editors.specs.Table.{pick};
 ghost use Rattle.text.specs.Lines.{oneLine};
-ghost use Rattle.runs.specs.World.{worldOf};
 ghost use Rattle.runs.specs.Call.{bc, bd, gate, read, write, undo, ack, line};
-ghost use Rattle.calls.specs.Orders.{calls, pokes, resets, exports, draws, foretells, unknown, accessesIn, Does, Serves};
+ghost use Rattle.calls.specs.Orders.{runningOf, calls, pokes, waits, starts, resets, exports, draws, foretells, unknown, accessesIn, ownersIn, waitingWith, Does, Serves};
 ghost use Rattle.calls.specs.Parts.{Tells};
 
-// The chip, and how many bytes of output wait.
+// The chip, the bytes that wait for a start, and how many bytes of output wait.
 pub struct Machine {
     pub chip: Chip,
+    pub waiting: [u8; 16],
     pub at: usize,
 }
 
@@ -31,108 +34,120 @@ pub struct Order {
 }
 
 // A call that answers one number.
-fn answered(out: &mut [u8], at: usize, told: Answered) -> Machine
-    requires { ⌜ at + 1024 ≤ length (now out) ⌝ }
-    ensures { λ r. ⌜ Tells (told .chip) (oneLine (told .answer)) (now (out .entry)) at (now (out .exit)) r ⌝ }
+fn answered(mut m: Machine, out: &mut [u8], told: Answered) -> Machine
+    requires { ⌜ m .at + 1024 ≤ length (now out) ⌝ }
+    ensures { λ r. ⌜ Tells (told .chip) (m .waiting) (oneLine (told .answer)) (now (out .entry)) (m .at) (now (out .exit)) r ⌝ }
 {
     let chip = told.chip;
-    let next = lines::one(out, at, told.answer);
-    Machine { chip, at: next }
+    m.chip = chip;
+    m.at = lines::one(out, m.at, told.answer);
+    m
 }
 
 // What is always done.
-fn done(out: &mut [u8], at: usize, chip: Chip) -> Machine
-    requires { ⌜ at + 1024 ≤ length (now out) ⌝ }
-    ensures { λ r. ⌜ Tells chip (oneLine done) (now (out .entry)) at (now (out .exit)) r ⌝ }
+fn done(mut m: Machine, out: &mut [u8]) -> Machine
+    requires { ⌜ m .at + 1024 ≤ length (now out) ⌝ }
+    ensures { λ r. ⌜ Tells (m .chip) (m .waiting) (oneLine done) (now (out .entry)) (m .at) (now (out .exit)) r ⌝ }
 {
-    let next = lines::one(out, at, DONE);
-    Machine { chip, at: next }
+    m.at = lines::one(out, m.at, DONE);
+    m
 }
 
 // A byte to BCxx.
-fn selected(chip: Chip, out: &mut [u8], at: usize, value: u8) -> Machine
-    requires { ⌜ at + 1024 ≤ length (now out) ⌝ }
-    ensures { λ r. ⌜ ((ram store places : List ℕ) → Does (worldOf chip ram store places) (calls (bc value)) ram store places (now (out .entry)) at (now (out .exit)) r) ⌝ }
+fn selected(m: Machine, out: &mut [u8], value: u8) -> Machine
+    requires { ⌜ m .at + 1024 ≤ length (now out) ⌝ }
+    ensures { λ r. ⌜ ((ram store song picture : List ℕ) → Does (runningOf m ram store song picture) (calls (bc value)) (runningOf r ram store song picture) (now (out .entry)) (m .at) (now (out .exit)) (r .at)) ⌝ }
 {
-    let told = chip::ports::write_bc(chip, value);
-    answered(out, at, told)
+    let told = chip::ports::write_bc(m.chip, value);
+    answered(m, out, told)
 }
 
 // A byte to the 6845's data port.
-fn data_written(chip: Chip, out: &mut [u8], at: usize, value: u8) -> Machine
-    requires { ⌜ at + 1024 ≤ length (now out) ⌝ }
-    ensures { λ r. ⌜ ((ram store places : List ℕ) → Does (worldOf chip ram store places) (calls (bd value)) ram store places (now (out .entry)) at (now (out .exit)) r) ⌝ }
+fn data_written(m: Machine, out: &mut [u8], value: u8) -> Machine
+    requires { ⌜ m .at + 1024 ≤ length (now out) ⌝ }
+    ensures { λ r. ⌜ ((ram store song picture : List ℕ) → Does (runningOf m ram store song picture) (calls (bd value)) (runningOf r ram store song picture) (now (out .entry)) (m .at) (now (out .exit)) (r .at)) ⌝ }
 {
-    let told = chip::ports::write_bd(chip, value);
-    answered(out, at, told)
+    let told = chip::ports::write_bd(m.chip, value);
+    answered(m, out, told)
 }
 
 // A byte to 7Fxx.
-fn gate_written(chip: Chip, out: &mut [u8], at: usize, value: u8) -> Machine
-    requires { ⌜ at + 1024 ≤ length (now out) ⌝ }
-    ensures { λ r. ⌜ ((ram store places : List ℕ) → Does (worldOf chip ram store places) (calls (gate value)) ram store places (now (out .entry)) at (now (out .exit)) r) ⌝ }
+fn gate_written(m: Machine, out: &mut [u8], value: u8) -> Machine
+    requires { ⌜ m .at + 1024 ≤ length (now out) ⌝ }
+    ensures { λ r. ⌜ ((ram store song picture : List ℕ) → Does (runningOf m ram store song picture) (calls (gate value)) (runningOf r ram store song picture) (now (out .entry)) (m .at) (now (out .exit)) (r .at)) ⌝ }
 {
-    let told = chip::ports::write_7f(chip, value);
-    answered(out, at, told)
+    let told = chip::ports::write_7f(m.chip, value);
+    answered(m, out, told)
 }
 
-// A page write.
+// A page write of an editor, with its places lent.
 fn page_written(
-    chip: Chip,
+    m: Machine,
+    editor: Editor,
     store: &mut [u8],
     places: &mut [u32; 256],
     out: &mut [u8],
-    at: usize,
     address: u16,
     value: u8,
 ) -> Machine
-    requires { ⌜ at + 1024 ≤ length (now out) ⌝ }
-    ensures { λ r. ⌜ ((ram : List ℕ) → Does (worldOf chip ram (now (store .entry)) (now (places .entry))) (calls (write address value)) ram (now (store .exit)) (now (places .exit)) (now (out .entry)) at (now (out .exit)) r) ⌝ }
+    requires { ⌜ m .at + 1024 ≤ length (now out) ⌝ }
+    ensures { λ r. ⌜ ((ram others : List ℕ) → Does (runningOf m ram (now (store .entry)) (pick editor (now (places .entry)) others) (pick editor others (now (places .entry)))) (calls (write editor address value)) (runningOf r ram (now (store .exit)) (pick editor (now (places .exit)) others) (pick editor others (now (places .exit)))) (now (out .entry)) (m .at) (now (out .exit)) (r .at)) ⌝ }
 {
-    let told = page::page_write(chip, store, places, address, value);
-    answered(out, at, told)
+    let told = page::page_write(m.chip, editor, store, places, address, value);
+    answered(m, out, told)
 }
 
-// The last page write taken back.
-fn undone(chip: Chip, store: &mut [u8], places: &[u32; 256], out: &mut [u8], at: usize) -> Machine
-    requires { ⌜ at + 1024 ≤ length (now out) ⌝ }
-    ensures { λ r. ⌜ ((ram : List ℕ) → Does (worldOf chip ram (now (store .entry)) (now (places .entry))) (calls undo) ram (now (store .exit)) (now (places .entry)) (now (out .entry)) at (now (out .exit)) r) ⌝ }
+// An editor's last page write taken back, with its places lent.
+fn undone(
+    m: Machine,
+    editor: Editor,
+    store: &mut [u8],
+    places: &[u32; 256],
+    out: &mut [u8],
+) -> Machine
+    requires { ⌜ m .at + 1024 ≤ length (now out) ⌝ }
+    ensures { λ r. ⌜ ((ram others : List ℕ) → Does (runningOf m ram (now (store .entry)) (pick editor (now (places .entry)) others) (pick editor others (now (places .entry)))) (calls (undo editor)) (runningOf r ram (now (store .exit)) (pick editor (now (places .entry)) others) (pick editor others (now (places .entry)))) (now (out .entry)) (m .at) (now (out .exit)) (r .at)) ⌝ }
 {
-    let told = page::undo(chip, store, places);
-    answered(out, at, told)
+    let told = page::undo(m.chip, editor, store, places);
+    answered(m, out, told)
 }
 
 // The registers exported.
-fn exported(chip: Chip, out: &mut [u8], at: usize) -> Machine
-    requires { ⌜ at + 1024 ≤ length (now out) ⌝ }
-    ensures { λ r. ⌜ ((ram store places : List ℕ) → Does (worldOf chip ram store places) exports ram store places (now (out .entry)) at (now (out .exit)) r) ⌝ }
+fn exported(mut m: Machine, out: &mut [u8]) -> Machine
+    requires { ⌜ m .at + 1024 ≤ length (now out) ⌝ }
+    ensures { λ r. ⌜ ((ram store song picture : List ℕ) → Does (runningOf m ram store song picture) exports (runningOf r ram store song picture) (now (out .entry)) (m .at) (now (out .exit)) (r .at)) ⌝ }
 {
-    let next = dump::exported(chip, out, at);
-    Machine { chip, at: next }
+    m.at = dump::exported(m.chip, out, m.at);
+    m
 }
 
-// A page read.
-fn page_shown(chip: Chip, store: &[u8], out: &mut [u8], at: usize, address: u16, bus: u8) -> Machine
-    requires { ⌜ at + 1024 ≤ length (now out) ⌝ }
-    ensures { λ r. ⌜ ((ram places : List ℕ) → Does (worldOf chip ram (now (store .entry)) places) (calls (read address bus)) ram (now (store .entry)) places (now (out .entry)) at (now (out .exit)) r) ⌝ }
+// A page read of an editor.
+fn page_shown(
+    mut m: Machine,
+    editor: Editor,
+    store: &[u8],
+    out: &mut [u8],
+    address: u16,
+    bus: u8,
+) -> Machine
+    requires { ⌜ m .at + 1024 ≤ length (now out) ⌝ }
+    ensures { λ r. ⌜ ((ram song picture : List ℕ) → Does (runningOf m ram (now (store .entry)) song picture) (calls (read editor address bus)) (runningOf r ram (now (store .entry)) song picture) (now (out .entry)) (m .at) (now (out .exit)) (r .at)) ⌝ }
 {
-    let told = page::page_read(chip, store, address, bus);
-    let next = lines::two(out, at, told.answer, told.byte);
-    Machine { chip, at: next }
+    let told = page::page_read(m.chip, editor, store, address, bus);
+    m.at = lines::two(out, m.at, told.answer, told.byte);
+    m
 }
 
 // An acknowledge.
-fn acknowledged(chip: Chip, out: &mut [u8], at: usize) -> Machine
-    requires { ⌜ at + 1024 ≤ length (now out) ⌝ }
-    ensures { λ r. ⌜ ((ram store places : List ℕ) → Does (worldOf chip ram store places) (calls ack) ram store places (now (out .entry)) at (now (out .exit)) r) ⌝ }
+fn acknowledged(mut m: Machine, out: &mut [u8]) -> Machine
+    requires { ⌜ m .at + 1024 ≤ length (now out) ⌝ }
+    ensures { λ r. ⌜ ((ram store song picture : List ℕ) → Does (runningOf m ram store song picture) (calls ack) (runningOf r ram store song picture) (now (out .entry)) (m .at) (now (out .exit)) (r .at)) ⌝ }
 {
-    let told = chip::acknowledge::acknowledge(chip);
-    let after = told.chip;
-    let next = lines::two(out, at, told.answer, told.vector);
-    Machine {
-        chip: after,
-        at: next,
-    }
+    let told = chip::acknowledge::acknowledge(m.chip);
+    let chip = told.chip;
+    m.chip = chip;
+    m.at = lines::two(out, m.at, told.answer, told.vector);
+    m
 }
 
 // What the processor does at the 8255 for each channel, two bits a channel.
@@ -147,65 +162,113 @@ fn accesses_in(value: u8) -> Accesses
 }
 
 // A line step.
-fn stepped(chip: Chip, ram: &[u8], out: &mut [u8], at: usize, value: u8) -> Machine
-    requires { ⌜ at + 1024 ≤ length (now out) ⌝ }
-    ensures { λ r. ⌜ ((store places : List ℕ) → Does (worldOf chip (now (ram .entry)) store places) (calls (line (accessesIn value))) (now (ram .entry)) store places (now (out .entry)) at (now (out .exit)) r) ⌝ }
+fn stepped(mut m: Machine, ram: &[u8], out: &mut [u8], value: u8) -> Machine
+    requires { ⌜ m .at + 1024 ≤ length (now out) ⌝ }
+    ensures { λ r. ⌜ ((store song picture : List ℕ) → Does (runningOf m (now (ram .entry)) store song picture) (calls (line (accessesIn value))) (runningOf r (now (ram .entry)) store song picture) (now (out .entry)) (m .at) (now (out .exit)) (r .at)) ⌝ }
 {
-    let told = chip::line::step(chip, ram, accesses_in(value));
-    let after = told.chip;
+    let told = chip::line::step(m.chip, ram, accesses_in(value));
     let report = told.report;
-    let next = lines::stepped(out, at, told.answer, report);
-    Machine {
-        chip: after,
-        at: next,
-    }
+    let chip = told.chip;
+    m.chip = chip;
+    m.at = lines::stepped(out, m.at, told.answer, report);
+    m
 }
 
 // The current line drawn.
-fn painted(chip: Chip, ram: &[u8], store: &[u8], out: &mut [u8], at: usize) -> Machine
-    requires { ⌜ at + 1024 ≤ length (now out) ⌝ }
-    ensures { λ r. ⌜ ((places : List ℕ) → Does (worldOf chip (now (ram .entry)) (now (store .entry)) places) draws (now (ram .entry)) (now (store .entry)) places (now (out .entry)) at (now (out .exit)) r) ⌝ }
+fn painted(mut m: Machine, ram: &[u8], store: &[u8], out: &mut [u8]) -> Machine
+    requires { ⌜ m .at + 1024 ≤ length (now out) ⌝ }
+    ensures { λ r. ⌜ ((song picture : List ℕ) → Does (runningOf m (now (ram .entry)) (now (store .entry)) song picture) draws (runningOf r (now (ram .entry)) (now (store .entry)) song picture) (now (out .entry)) (m .at) (now (out .exit)) (r .at)) ⌝ }
 {
-    let next = paint::painted(chip, ram, store, out, at);
-    Machine { chip, at: next }
+    m.at = paint::painted(m.chip, ram, store, out, m.at);
+    m
 }
 
 // A forecast.
-fn foretold(chip: Chip, ram: &[u8], out: &mut [u8], at: usize, start: u16, prescale: u8) -> Machine
-    requires { ⌜ at + 1024 ≤ length (now out) ⌝ }
-    ensures { λ r. ⌜ ((store places : List ℕ) → Does (worldOf chip (now (ram .entry)) store places) (foretells start prescale) (now (ram .entry)) store places (now (out .entry)) at (now (out .exit)) r) ⌝ }
+fn foretold(mut m: Machine, ram: &[u8], out: &mut [u8], start: u16, prescale: u8) -> Machine
+    requires { ⌜ m .at + 1024 ≤ length (now out) ⌝ }
+    ensures { λ r. ⌜ ((store song picture : List ℕ) → Does (runningOf m (now (ram .entry)) store song picture) (foretells start prescale) (runningOf r (now (ram .entry)) store song picture) (now (out .entry)) (m .at) (now (out .exit)) (r .at)) ⌝ }
 {
     let told = forecast::forecast(ram, start, prescale);
     let list = forecast::list(ram, start);
-    let next = lines::forecast(out, at, told, list.len());
-    Machine { chip, at: next }
+    m.at = lines::forecast(out, m.at, told, list.len());
+    m
 }
 
 // A byte of RAM changed.
-fn poked(chip: Chip, ram: &mut [u8], out: &mut [u8], at: usize, address: u16, value: u8) -> Machine
-    requires { ⌜ (at + 1024 ≤ length (now out)) × (length (now ram) ≡ 65536) ⌝ }
-    ensures { λ r. ⌜ ((store places : List ℕ) → Does (worldOf chip (now (ram .entry)) store places) (pokes address value) (now (ram .exit)) store places (now (out .entry)) at (now (out .exit)) r) ⌝ }
+fn poked(m: Machine, ram: &mut [u8], out: &mut [u8], address: u16, value: u8) -> Machine
+    requires { ⌜ (m .at + 1024 ≤ length (now out)) × (length (now ram) ≡ 65536) ⌝ }
+    ensures { λ r. ⌜ ((store song picture : List ℕ) → Does (runningOf m (now (ram .entry)) store song picture) (pokes address value) (runningOf r (now (ram .exit)) store song picture) (now (out .entry)) (m .at) (now (out .exit)) (r .at)) ⌝ }
 {
     ram[address as usize] = value;
-    done(out, at, chip)
+    done(m, out)
 }
 
-// A reset.
-fn reset(out: &mut [u8], at: usize) -> Machine
-    requires { ⌜ at + 1024 ≤ length (now out) ⌝ }
-    ensures { λ r. ⌜ ((c : Chip) (ram store places : List ℕ) → Does (worldOf c ram store places) resets ram store places (now (out .entry)) at (now (out .exit)) r) ⌝ }
+// Waiting bytes, with one of them changed if there is a place for it.
+fn waiting_with(mut waiting: [u8; 16], address: u16, value: u8) -> [u8; 16]
+    ensures { λ r. ⌜ r ≡ waitingWith waiting address value ⌝ }
 {
-    let chip = chip::start::reset();
-    done(out, at, chip)
+    if 16 <= address {
+        return waiting;
+    }
+    waiting[address as usize] = value;
+    waiting
+}
+
+// A byte that waits for a start.
+fn kept_waiting(mut m: Machine, out: &mut [u8], address: u16, value: u8) -> Machine
+    requires { ⌜ m .at + 1024 ≤ length (now out) ⌝ }
+    ensures { λ r. ⌜ ((ram store song picture : List ℕ) → Does (runningOf m ram store song picture) (waits address value) (runningOf r ram store song picture) (now (out .entry)) (m .at) (now (out .exit)) (r .at)) ⌝ }
+{
+    let before = m.waiting;
+    let waiting = waiting_with(before, address, value);
+    m.waiting = waiting;
+    done(m, out)
+}
+
+// The owners in the first seven waiting bytes, low byte first.
+fn owners_in(waiting: &[u8]) -> Owners
+    ensures { λ r. ⌜ r ≡ ownersIn (now (waiting .entry)) ⌝ }
+{
+    let first = common::byte_at(waiting, 0) as u32;
+    let second = common::byte_at(waiting, 1) as u32;
+    let third = common::byte_at(waiting, 2) as u32;
+    let fourth = common::byte_at(waiting, 3) as u32;
+    let low = common::byte_at(waiting, 4) as u16;
+    let high = common::byte_at(waiting, 5) as u16;
+    Owners {
+        palette: first + second * 256 + third * 65536 + fourth * 16777216,
+        sprites: low + high * 256,
+        channels: common::byte_at(waiting, 6),
+    }
+}
+
+// A start with the table that waits.
+fn started(m: Machine, out: &mut [u8]) -> Machine
+    requires { ⌜ m .at + 1024 ≤ length (now out) ⌝ }
+    ensures { λ r. ⌜ ((ram store song picture : List ℕ) → Does (runningOf m ram store song picture) starts (runningOf r ram store song picture) (now (out .entry)) (m .at) (now (out .exit)) (r .at)) ⌝ }
+{
+    let waiting = m.waiting;
+    let told = chip::table::start(m.chip, owners_in(&waiting));
+    answered(m, out, told)
+}
+
+// A reset, which clears the waiting bytes.
+fn reset(mut m: Machine, out: &mut [u8]) -> Machine
+    requires { ⌜ m .at + 1024 ≤ length (now out) ⌝ }
+    ensures { λ r. ⌜ ((ram store song picture : List ℕ) → Does (runningOf m ram store song picture) resets (runningOf r ram store song picture) (now (out .entry)) (m .at) (now (out .exit)) (r .at)) ⌝ }
+{
+    m.chip = chip::start::reset();
+    m.waiting = [0; 16];
+    done(m, out)
 }
 
 // A letter that names nothing.
-fn not_known(chip: Chip, out: &mut [u8], at: usize) -> Machine
-    requires { ⌜ at + 1024 ≤ length (now out) ⌝ }
-    ensures { λ r. ⌜ ((ram store places : List ℕ) → Does (worldOf chip ram store places) unknown ram store places (now (out .entry)) at (now (out .exit)) r) ⌝ }
+fn not_known(mut m: Machine, out: &mut [u8]) -> Machine
+    requires { ⌜ m .at + 1024 ≤ length (now out) ⌝ }
+    ensures { λ r. ⌜ ((ram store song picture : List ℕ) → Does (runningOf m ram store song picture) unknown (runningOf r ram store song picture) (now (out .entry)) (m .at) (now (out .exit)) (r .at)) ⌝ }
 {
-    let next = lines::bad(out, at);
-    Machine { chip, at: next }
+    m.at = lines::bad(out, m.at);
+    m
 }
 
 // What an order asks for.
@@ -213,32 +276,36 @@ pub fn serve(
     m: Machine,
     ram: &mut [u8],
     store: &mut [u8],
-    places: &mut [u32; 256],
+    song: &mut [u32; 256],
+    picture: &mut [u32; 256],
     out: &mut [u8],
     o: Order,
 ) -> Machine
     requires { ⌜ (m .at + 1024 ≤ length (now out)) × (length (now ram) ≡ 65536) ⌝ }
-    ensures { λ r. ⌜ Serves (worldOf (m .chip) (now (ram .entry)) (now (store .entry)) (now (places .entry))) o (now (ram .exit)) (now (store .exit)) (now (places .exit)) (now (out .entry)) (m .at) (now (out .exit)) r ⌝ }
+    ensures { λ r. ⌜ Serves (runningOf m (now (ram .entry)) (now (store .entry)) (now (song .entry)) (now (picture .entry))) o (runningOf r (now (ram .exit)) (now (store .exit)) (now (song .exit)) (now (picture .exit))) (now (out .entry)) (m .at) (now (out .exit)) (r .at) ⌝ }
 {
-    let chip = m.chip;
-    let at = m.at;
     let op = o.op;
     let address = o.address;
     let value = o.value;
     match op {
-        b'B' => selected(chip, out, at, value),
-        b'D' => data_written(chip, out, at, value),
-        b'G' => gate_written(chip, out, at, value),
-        b'W' => page_written(chip, store, places, out, at, address, value),
-        b'R' => page_shown(chip, store, out, at, address, value),
-        b'U' => undone(chip, store, places, out, at),
-        b'E' => exported(chip, out, at),
-        b'A' => acknowledged(chip, out, at),
-        b'L' => stepped(chip, ram, out, at, value),
-        b'P' => painted(chip, ram, store, out, at),
-        b'F' => foretold(chip, ram, out, at, address, value),
-        b'M' => poked(chip, ram, out, at, address, value),
-        b'Z' => reset(out, at),
-        _ => not_known(chip, out, at),
+        b'B' => selected(m, out, value),
+        b'D' => data_written(m, out, value),
+        b'G' => gate_written(m, out, value),
+        b'W' => page_written(m, Editor::Song, store, song, out, address, value),
+        b'w' => page_written(m, Editor::Picture, store, picture, out, address, value),
+        b'R' => page_shown(m, Editor::Song, store, out, address, value),
+        b'r' => page_shown(m, Editor::Picture, store, out, address, value),
+        b'U' => undone(m, Editor::Song, store, song, out),
+        b'u' => undone(m, Editor::Picture, store, picture, out),
+        b'E' => exported(m, out),
+        b'A' => acknowledged(m, out),
+        b'L' => stepped(m, ram, out, value),
+        b'P' => painted(m, ram, store, out),
+        b'F' => foretold(m, ram, out, address, value),
+        b'M' => poked(m, ram, out, address, value),
+        b'T' => kept_waiting(m, out, address, value),
+        b'S' => started(m, out),
+        b'Z' => reset(m, out),
+        _ => not_known(m, out),
     }
 }

@@ -5,12 +5,11 @@ use Prim.Native.Nat.{ℕ, zero, suc, _+_, _-_, _*_, _%_, _≤_}
 use lib.Dec.{leb}
 use lib.ListN.{length, getD}
 use Rattle.common.specs.Choice.{if}
-use Rattle.runs.specs.World.{World, worldOf}
 use Rattle.calls.specs.declared.Machine.{Machine}
 use Rattle.calls.specs.declared.Order.{Order}
 use Rattle.text.specs.Text.{Appends}
 use Rattle.text.specs.Lines.{shortLine}
-use Rattle.calls.specs.Orders.{actOf, worldBy}
+use Rattle.calls.specs.Orders.{Running, actOf, stateBy}
 
 -- the address of the order at a place of a block, low byte first
 abbrev pub addressAt : List ℕ → ℕ → ℕ
@@ -30,7 +29,7 @@ pub record Ready (m : Machine) (ram out : List ℕ) : Type 0 where
 
 -- a machine with room for a line in so long a buffer: where there is none, all that waits is written out first
 abbrev pub emptied : Machine → Machine
-emptied m = record { chip = m .chip; at = 0 }
+emptied m = record { chip = m .chip; waiting = m .waiting; at = 0 }
 
 unfoldable pub roomy : Machine → ℕ → Machine
 roomy m size = if (leb (m .at) (size - 1024)) m (emptied m)
@@ -39,24 +38,22 @@ roomy m size = if (leb (m .at) (size - 1024)) m (emptied m)
 pub record Roomy (m : Machine) (out : List ℕ) (r : Machine) : Type 0 where
   pub is : r ≡ roomy m (length out)
   pub chip : r .chip ≡ m .chip
+  pub waiting : r .waiting ≡ m .waiting
   pub room : r .at + 1024 ≤ length out
 
 -- the end of the input, after so many bytes of a block: a part of an order makes the last line
 pub record Ends (m : Machine) (before : List ℕ) (bytes : ℕ) (after : List ℕ) (r : Machine) : Type 0 where
   pub chip : r .chip ≡ m .chip
+  pub waiting : r .waiting ≡ m .waiting
   pub whole : bytes % 4 ≡ 0 → (r ≡ m) × (after ≡ before)
   pub part : (bytes % 4 ≡ 0 → ⊥) → Appends before (roomy m (length before) .at) shortLine after (r .at)
   pub within : r .at ≤ length after
 
--- the world that a machine has, with the buffers beside it
-abbrev pub worldBeside : Machine → List ℕ → List ℕ → List ℕ → World
-worldBeside m ram store places = worldOf (m .chip) ram store places
+-- the state after the order at a place of a block
+unfoldable pub orderServed : Running → List ℕ → ℕ → Running
+orderServed s block i = stateBy s (actOf (getD block i 0) (addressAt block i) (getD block (i + 3) 0))
 
--- the world after the order at a place of a block
-unfoldable pub orderServed : World → List ℕ → ℕ → World
-orderServed w block i = worldBy w (actOf (getD block i 0) (addressAt block i) (getD block (i + 3) 0))
-
--- the world after the first k orders of a block
-unfoldable pub ordersServed : World → List ℕ → ℕ → World
-ordersServed w block zero = w
-ordersServed w block (suc k) = orderServed (ordersServed w block k) block (k * 4)
+-- the state after the first k orders of a block
+unfoldable pub ordersServed : Running → List ℕ → ℕ → Running
+ordersServed s block zero = s
+ordersServed s block (suc k) = orderServed (ordersServed s block k) block (k * 4)

@@ -1,2 +1,2 @@
--- What the program does with a block of records.
+-- What the program does with a block of orders.
 pub mod Blocks

@@ -8,7 +8,8 @@ use text::lines;
 ghost use mathlib.Core.Path.{_≡_};
 ghost use Prim.Native.Nat.{_+_, _/_, _≤_};
 ghost use lib.ListN.{length};
-ghost use Rattle.plus_run.specs.Blocks.{Takes, Ready, Roomy, Ends, worldBeside, orderServed, ordersServed};
+ghost use Rattle.calls.specs.Orders.{runningOf};
+ghost use Rattle.plus_run.specs.Blocks.{Takes, Ready, Roomy, Ends, orderServed, ordersServed};
 
 // More than the longest line of output.
 const LONGEST: usize = 1024;
@@ -27,7 +28,7 @@ fn flush(out: &[u8], at: usize)
 }
 
 // A machine with room for a line.
-fn with_room(m: Machine, out: &[u8]) -> Machine
+fn with_room(mut m: Machine, out: &[u8]) -> Machine
     requires { ⌜ (m .at ≤ length (now out)) × (1024 ≤ length (now out)) ⌝ }
     ensures { λ r. ⌜ Roomy m (now (out .entry)) r ⌝ }
 {
@@ -36,8 +37,8 @@ fn with_room(m: Machine, out: &[u8]) -> Machine
         return m;
     }
     flush(out, at);
-    let chip = m.chip;
-    Machine { chip, at: 0 }
+    m.at = 0;
+    m
 }
 
 // The order at a place of a block.
@@ -57,17 +58,18 @@ fn turn(
     m: Machine,
     ram: &mut [u8],
     store: &mut [u8],
-    places: &mut [u32; 256],
+    song: &mut [u32; 256],
+    picture: &mut [u32; 256],
     out: &mut [u8],
     block: &[u8],
     i: usize,
 ) -> Machine
     requires { ⌜ (Ready m (now ram) (now out)) × (i + 4 ≤ length (now block)) ⌝ }
     ensures { λ r. ⌜ Ready r (now (ram .exit)) (now (out .exit)) ⌝ }
-    ensures { λ r. ⌜ worldBeside r (now (ram .exit)) (now (store .exit)) (now (places .exit)) ≡ orderServed (worldBeside m (now (ram .entry)) (now (store .entry)) (now (places .entry))) (now (block .entry)) i ⌝ }
+    ensures { λ r. ⌜ runningOf r (now (ram .exit)) (now (store .exit)) (now (song .exit)) (now (picture .exit)) ≡ orderServed (runningOf m (now (ram .entry)) (now (store .entry)) (now (song .entry)) (now (picture .entry))) (now (block .entry)) i ⌝ }
 {
     let ready = with_room(m, out);
-    calls::serve(ready, ram, store, places, out, order_at(block, i))
+    calls::serve(ready, ram, store, song, picture, out, order_at(block, i))
 }
 
 // Every whole order of a block.
@@ -75,19 +77,20 @@ fn orders(
     m: Machine,
     ram: &mut [u8],
     store: &mut [u8],
-    places: &mut [u32; 256],
+    song: &mut [u32; 256],
+    picture: &mut [u32; 256],
     out: &mut [u8],
     block: &[u8],
 ) -> Machine
     requires { ⌜ Ready m (now ram) (now out) ⌝ }
     ensures { λ r. ⌜ Ready r (now (ram .exit)) (now (out .exit)) ⌝ }
-    ensures { λ r. ⌜ worldBeside r (now (ram .exit)) (now (store .exit)) (now (places .exit)) ≡ ordersServed (worldBeside m (now (ram .entry)) (now (store .entry)) (now (places .entry))) (now (block .entry)) (length (now (block .entry)) / 4) ⌝ }
+    ensures { λ r. ⌜ runningOf r (now (ram .exit)) (now (store .exit)) (now (song .exit)) (now (picture .exit)) ≡ ordersServed (runningOf m (now (ram .entry)) (now (store .entry)) (now (song .entry)) (now (picture .entry))) (now (block .entry)) (length (now (block .entry)) / 4) ⌝ }
 {
     let whole = block.len() / 4;
     let mut machine = m;
     let mut k = 0;
     while k < whole {
-        machine = turn(machine, ram, store, places, out, block, k * 4);
+        machine = turn(machine, ram, store, song, picture, out, block, k * 4);
         k += 1;
     }
     machine
@@ -101,10 +104,9 @@ fn last(m: Machine, out: &mut [u8], bytes: usize) -> Machine
     if bytes % 4 == 0 {
         return m;
     }
-    let ready = with_room(m, out);
-    let chip = ready.chip;
-    let next = lines::short(out, ready.at);
-    Machine { chip, at: next }
+    let mut ready = with_room(m, out);
+    ready.at = lines::short(out, ready.at);
+    ready
 }
 
 // One block of input. A block is filled, so that no order lies across two of them, and one that isn't full is the last.
@@ -112,7 +114,8 @@ fn block_played(
     m: Machine,
     ram: &mut [u8],
     store: &mut [u8],
-    places: &mut [u32; 256],
+    song: &mut [u32; 256],
+    picture: &mut [u32; 256],
     out: &mut [u8],
     block: &mut [u8],
 ) -> Progress
@@ -120,7 +123,7 @@ fn block_played(
     ensures { λ r. ⌜ Ready (r .machine) (now (ram .exit)) (now (out .exit)) ⌝ }
 {
     let n = io::read_full(STDIN_FILENO, block);
-    let played = orders(m, ram, store, places, out, &block[..n]);
+    let played = orders(m, ram, store, song, picture, out, &block[..n]);
     if n == block.len() {
         return Progress {
             machine: played,
@@ -139,7 +142,8 @@ fn blocks(
     m: Machine,
     ram: &mut [u8],
     store: &mut [u8],
-    places: &mut [u32; 256],
+    song: &mut [u32; 256],
+    picture: &mut [u32; 256],
     out: &mut [u8],
     block: &mut [u8],
 ) -> Machine
@@ -152,7 +156,7 @@ fn blocks(
     };
     let mut turns: u64 = 0x100000000;
     while turns > 0 && progress.more {
-        progress = block_played(progress.machine, ram, store, places, out, block);
+        progress = block_played(progress.machine, ram, store, song, picture, out, block);
         turns -= 1;
     }
     progress.machine
@@ -164,12 +168,22 @@ fn play(ram: &mut [u8], store: &mut [u8])
 {
     let mut out = io::large_buffer();
     let mut block = io::large_buffer();
-    let mut places = [0u32; 256];
+    let mut song = [0u32; 256];
+    let mut picture = [0u32; 256];
     let first = Machine {
         chip: chip::start::reset(),
+        waiting: [0; 16],
         at: 0,
     };
-    let end = blocks(first, ram, store, &mut places, &mut out, &mut block);
+    let end = blocks(
+        first,
+        ram,
+        store,
+        &mut song,
+        &mut picture,
+        &mut out,
+        &mut block,
+    );
     flush(&out, end.at);
 }
 

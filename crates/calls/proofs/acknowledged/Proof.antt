@@ -1,6 +1,9 @@
 -- The line of the answer.
-use borrow.Author.Needs.{needs}
+use mathlib.Core.Path.{ap}
+use Rattle.runs.specs.World.{worldOf}
 use Rattle.runs.proofs.Worlds.{acknowledging}
+use borrow.Author.Needs.{needs}
+use Rattle.calls.proofs.Serving.{waitingBeside}
 use Rattle.calls.proofs.acknowledged.Statement.{statement}
 use Rattle.calls.proofs.acknowledged.Tie as tie
 
@@ -14,10 +17,11 @@ same-length : tie.Need-same-length
 same-length c = search needs
 
 returns : tie.Need-returns
-returns c ram store places =
+returns c ram store song picture =
     let told = c .before .before .before .before .before .acknowledge .ensures in
+    let m = c .before .before .before .before .before .before .before .args .m in
     record {
-      world = acknowledging ram store places told;
+      state = ap (waitingBeside (m .waiting)) (acknowledging (worldOf (m .chip) ram store song picture) told);
       puts = simp (told .answer, told .vector) at (c .before .before .two .ensures .0);
       bound = search needs;
     }

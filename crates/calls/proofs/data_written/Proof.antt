@@ -1,7 +1,7 @@
 -- The line has the answer.
 use mathlib.Core.Path.{refl}
-use borrow.Author.Needs.{needs}
 use Rattle.calls.proofs.Serving.{answers}
+use borrow.Author.Needs.{needs}
 use Rattle.calls.proofs.data_written.Statement.{statement}
 use Rattle.calls.proofs.data_written.Tie as tie
 
@@ -15,8 +15,8 @@ same-length : tie.Need-same-length
 same-length c = search needs
 
 returns : tie.Need-returns
-returns c ram store places =
-    answers (c .before .before .answered .ensures) (c .before .before .before .before .write-bd .ensures) ram store places refl refl
+returns c ram store song picture =
+    answers (c .before .before .answered .ensures) (c .before .before .before .before .write-bd .ensures) ram store song picture refl refl
 
 pub data-written-spec : {M : Type 1} → statement M
 data-written-spec = tie.close (tie.spec write-bd-requires answered-requires same-length returns)

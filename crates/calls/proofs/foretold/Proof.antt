@@ -1,7 +1,7 @@
 -- The line of the answer.
 use mathlib.Core.Path.{refl}
-use borrow.Author.Needs.{needs}
 use Rattle.calls.specs.Orders.{foretoldLine}
+use borrow.Author.Needs.{needs}
 use Rattle.calls.proofs.foretold.Statement.{statement}
 use Rattle.calls.proofs.foretold.Tie as tie
 
@@ -19,12 +19,12 @@ same-length c = search needs
 
 returns : tie.Need-returns
 unfolding foretoldLine
-returns c store places =
+returns c store song picture =
+    let told = c .before .before .before .before .before .forecast .ensures in
     record {
-      world = refl;
+      state = refl;
       puts =
-          simp (c .before .before .before .before .before .forecast .ensures .answer, c .before .before .before .before .before .forecast .ensures .lines, c .before .before .before .before .before .forecast .ensures .cycles, c .before .before .before .before .before .forecast .ensures .most, c .before .before .before .before .list .ensures) at
-          (c .before .before .forecast2 .ensures .0);
+          simp (told .answer, told .lines, told .cycles, told .most, c .before .before .before .before .list .ensures) at (c .before .before .forecast2 .ensures .0);
       bound = search needs;
     }
 

@@ -1,7 +1,9 @@
 -- The line of the answer.
-use borrow.Author.Needs.{needs}
+use mathlib.Core.Path.{ap}
 use Rattle.runs.specs.World.{worldOf}
 use Rattle.runs.proofs.Worlds.{reading}
+use borrow.Author.Needs.{needs}
+use Rattle.calls.proofs.Serving.{waitingBeside}
 use Rattle.calls.proofs.page_shown.Statement.{statement}
 use Rattle.calls.proofs.page_shown.Tie as tie
 
@@ -15,11 +17,13 @@ same-length : tie.Need-same-length
 same-length c = search needs
 
 returns : tie.Need-returns
-returns c ram places =
+returns c ram song picture =
     let told = c .before .before .before .before .page-read .ensures in
     let start = c .before .before .before .before .before .before .before .args in
     record {
-      world = reading (worldOf (start .chip) ram (start .store .now) places) (start .address) (start .bus);
+      state =
+          ap (waitingBeside (start .m .waiting))
+          (reading (worldOf (start .m .chip) ram (start .store .now) song picture) (start .editor) (start .address) (start .bus));
       puts = simp (told .answer, told .byte) at (c .before .before .two .ensures .0);
       bound = search needs;
     }

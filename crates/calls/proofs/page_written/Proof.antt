@@ -1,6 +1,6 @@
 -- The line has the answer.
-use borrow.Author.Needs.{needs}
 use Rattle.calls.proofs.Serving.{writes}
+use borrow.Author.Needs.{needs}
 use Rattle.calls.proofs.page_written.Statement.{statement}
 use Rattle.calls.proofs.page_written.Tie as tie
 
@@ -18,7 +18,7 @@ same-length-2 c = search needs
 
 returns : tie.Need-returns
 returns c =
-    writes (c .before .before .answered .ensures) (c .before .before .before .before .before .before .page-write .ensures)
+    writes (c .before .before .answered .ensures) (c .before .before .before .before .before .before .before .before .before .before .before .args .editor) (c .before .before .before .before .before .before .page-write .ensures)
 
 pub page-written-spec : {M : Type 1} → statement M
 page-written-spec =

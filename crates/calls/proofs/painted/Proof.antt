@@ -11,7 +11,7 @@ same-length : tie.Need-same-length
 same-length c = search needs
 
 returns : tie.Need-returns
-returns c places = record { world = refl; puts = c .before .before .painted .ensures .0; bound = search needs }
+returns c song picture = record { state = refl; puts = c .before .before .painted .ensures .0; bound = search needs }
 
 pub painted-spec : {M : Type 1} → statement M
 painted-spec = tie.close (tie.spec painted-requires same-length returns)

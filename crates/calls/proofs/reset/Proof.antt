@@ -1,7 +1,7 @@
--- The chip that reset gives.
+-- The chip that reset gives, and no byte waits.
 use mathlib.Core.Path.{refl}
-use borrow.Author.Needs.{needs}
 use Rattle.calls.proofs.Serving.{tells}
+use borrow.Author.Needs.{needs}
 use Rattle.calls.proofs.reset.Statement.{statement}
 use Rattle.calls.proofs.reset.Tie as tie
 
@@ -15,9 +15,9 @@ same-length : tie.Need-same-length
 same-length c = search needs
 
 returns : tie.Need-returns
-returns c d ram store places =
-    let fresh = c .before .before .before .before .reset .ensures .chip in
-    tells ram store places (c .before .before .done .ensures) (rw fresh) refl
+returns c ram store song picture =
+    let fresh = c .before .before .before .before .before .reset .ensures .chip in
+    tells ram store song picture (c .before .before .done .ensures) (rw fresh) refl
 
 pub reset-spec : {M : Type 1} → statement M
 reset-spec = tie.close (tie.spec reset-requires done-requires same-length returns)

@@ -18,7 +18,7 @@ same-length-2 c = search needs
 
 returns : tie.Need-returns
 returns c =
-    undoes (c .before .before .answered .ensures) (c .before .before .before .before .before .before .undo .ensures)
+    undoes (c .before .before .answered .ensures) (c .before .before .before .before .before .before .before .before .before .before .args .editor) (c .before .before .before .before .before .before .undo .ensures)
 
 pub undone-spec : {M : Type 1} → statement M
 undone-spec =

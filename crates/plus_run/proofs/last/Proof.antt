@@ -10,6 +10,7 @@ returns : tie.Need-returns
 returns c =
     record {
       chip = refl;
+      waiting = refl;
       whole = λ e. (refl, refl);
       part = λ some. absurd (some (c .if1 .taken));
       within = omega arith;
@@ -26,11 +27,12 @@ same-length c = search needs
 
 returns-2 : tie.Need-returns-2
 returns-2 c =
-    let roomy = c .before .before .before .before .before .with-room .ensures in
+    let roomy = c .before .before .before .before .with-room .ensures in
     let puts = c .before .before .short .ensures in
     record {
       chip = roomy .chip;
-      whole = λ e. absurd (c .before .before .before .before .before .before .before .if1 .left e);
+      waiting = roomy .waiting;
+      whole = λ e. absurd (c .before .before .before .before .before .before .if1 .left e);
       part = λ some. rw (← ap (λ (m : Machine). m .at) (roomy .is)) (puts .0);
       within = omega (arith, puts .1, roomy .room, c .before .before .short .kept);
     }

@@ -1,4 +1,4 @@
--- The four bytes of a record lie in the block.
+-- The four bytes of an order lie in the block.
 use Prim.Native.Nat.{_+_}
 use native.Mathlib.Omega.{arith}
 use borrow.Author.Needs.{needs}
