@@ -4,6 +4,7 @@ use mathlib.Core.List.{List, [], _∷_}
 use Prim.Native.Nat.{ℕ}
 use lib.ListN.{length, length-set}
 use Rattle.common.specs.Answers.{done}
+use Rattle.editors.specs.declared.Editor.{Editor}
 use Rattle.chip.specs.declared.Chip.{Chip}
 use Rattle.chip.specs.declared.Answered.{Answered}
 use Rattle.registers.specs.declared.address.Register.{Register}
@@ -15,15 +16,16 @@ use Rattle.contents.specs.Widths.{Widths}
 use Rattle.contents.proofs.Determined.{same-store, same-sprites, same-video}
 use Rattle.contents.proofs.Same.{either-register}
 use Rattle.page.specs.UndoRecord.{entryRegister, entryContents}
-use Rattle.page.specs.Undo.{newest, Undoes}
+use Rattle.page.specs.Undo.{Undoes}
 use Rattle.export.specs.Export.{exported, bytesOf}
 use Rattle.draw.specs.Drawing.{allBorder, isBorder, screenPen, mainPen, entryAt}
-use Rattle.runs.specs.World.{World, edited}
+use Rattle.runs.specs.World.{World, placesOf, edited}
 use Rattle.runs.specs.Call.{undo, Reply, number}
 use Rattle.runs.specs.Run as run
 use Rattle.runs.specs.Run.{Made, Makes}
 use Rattle.runs.specs.Trace.{Handed, lentOn, Snapshot, Trace, Restored}
 use Rattle.runs.proofs.Calls.{by-answer, fixed, lending, lifetimes}
+use Rattle.runs.proofs.Views.{newestOf}
 use Rattle.runs.proofs.Within.{call-widths}
 use Rattle.runs.proofs.Traces.{knows}
 use Rattle.runs.proofs.TakesBack.{takes-back, none-left}
@@ -77,16 +79,16 @@ put-length store Dcsr b = refl
 put-length store Status b = refl
 put-length store Empty b = refl
 
-module _ {w v : World} {r : Reply} {start : World} {log : List Made} {s : Snapshot} {ss : List Snapshot} (t : Trace start log w (s ∷ ss))
-    (k : Makes w undo r v) (z : r .answer ≡ done) where
+module _ {ed : Editor} {w v : World} {r : Reply} {start : World} {log : List Made} {s : Snapshot} {ss : List Snapshot}
+    (t : Trace ed start log w (s ∷ ss)) (k : Makes w (undo ed) r v) (z : r .answer ≡ done) where
   after-widths : Widths (v .chip)
-  after-widths = rw (fixed k .world-is) (call-widths w undo tt (knows t .widths))
+  after-widths = rw (fixed k .world-is) (call-widths w (undo ed) tt (knows t .widths))
 
   after-length : length (v .lent .store) ≡ length (w .lent .store)
   after-length =
-      let e = newest (w .chip) (w .lent .places) in
+      let e = newestOf w ed in
       rw (fixed k .world-is)
-      (by-answer (λ u. length (u .lent .store) ≡ length (w .lent .store)) w undo
+      (by-answer (λ u. length (u .lent .store) ≡ length (w .lent .store)) w (undo ed)
       (λ y. put-length (w .lent .store) (entryRegister e) (entryContents e)) refl)
 
   pub back-again : BackAgain s w v
@@ -110,20 +112,23 @@ module _ {w v : World} {r : Reply} {start : World} {log : List Made} {s : Snapsh
 
 -- undo's contract is a call of undo on every world with this chip, store and places
 makes :
-    {c : Chip} {store places store' : List ℕ} {r : Answered} {w : World} → Undoes c store places store' r → w .chip ≡ c →
-    lentOn w ≡ record { store = store; places = places } → Makes w undo (number (r .answer)) (edited w (r .chip) store' (w .lent .places))
-makes {store' = store'} {r = r} {w = w} u e h =
+    {c : Chip} {ed : Editor} {store places store' : List ℕ} {r : Answered} {w : World} → Undoes c ed store places store' r → w .chip ≡ c →
+    lentOn w ed ≡ record { store = store; places = places } →
+    Makes w (undo ed) (number (r .answer)) (edited w ed (r .chip) store' (placesOf (w .lent) ed))
+makes {ed = ed} {store' = store'} {r = r} {w = w} u e h =
     let s = ap (λ (x : Handed). x .store) h in
     let p = ap (λ (x : Handed). x .places) h in
-    run.undo lifetimes (lending (w .lent .store)) (lending (w .lent .places)) store' r refl refl (rw (e, s, p) u)
+    run.undo lifetimes ed (lending (w .lent .store)) (lending (placesOf (w .lent) ed)) store' r refl refl (rw (e, s, p) u)
 
-pub told : {c : Chip} {store places store' : List ℕ} {r : Answered} → Undoes c store places store' r → UndoTold c store places store' r
-told {c} {store} {places} {store'} {r} u =
+pub told :
+    {c : Chip} {ed : Editor} {store places store' : List ℕ} {r : Answered} → Undoes c ed store places store' r →
+    UndoTold c ed store places store' r
+told {c} {ed} {store} {places} {store'} {r} u =
     record {
       undoes = u;
       takes-back =
           λ start w log s ss t e h z.
-          let p : w .lent .places ≡ places = ap (λ (x : Handed). x .places) h in
+          let p : placesOf (w .lent) ed ≡ places = ap (λ (x : Handed). x .places) h in
           rw (← p) (back-again t (makes u e h) z);
       none-left = λ start w log t e h z. none-left t (makes u e h) z;
     }

@@ -3,6 +3,7 @@ use chip::Acknowledged;
 use chip::Answered;
 use chip::Chip;
 use common::answer::DONE;
+use editors::Owners;
 use listing::Printed;
 use listing::ReadBack;
 use page::ByteRead;
@@ -20,6 +21,7 @@ ghost use Rattle.chip.specs.Contracts.{Answers};
 ghost use Rattle.chip.specs.Interrupts.{Acknowledges};
 ghost use Rattle.chip.specs.Ports.{Selects, dataAnswer, dataWritten, gateAnswer, gateWritten};
 ghost use Rattle.chip.specs.Reset.{Reset};
+ghost use Rattle.editors.specs.Table.{editorBy};
 ghost use Rattle.picture.specs.Palette.{greyOf};
 ghost use Rattle.page.specs.Page.{Reads, Writes};
 ghost use Rattle.export.specs.Export.{Exports};
@@ -32,6 +34,7 @@ ghost use Rattle.replay.specs.Contract.{Replays};
 ghost use Rattle.plus.specs.Report.{accessesBy, kindNumber, lowOf, kindsOf, lowsOf};
 ghost use Rattle.plus.specs.Promises.{StepReported, LengthTold};
 ghost use Rattle.plus.specs.Undo.{UndoTold};
+ghost use Rattle.plus.specs.Start.{StartTold};
 ghost use Rattle.plus.specs.Built.{Built};
 
 // A line step's answer, without enums: of each channel the number of what it did, and the low 12 bits of its word.
@@ -68,8 +71,8 @@ pub extern "C" fn plus_built() -> PlusBuilt
     ensures { λ r. ⌜ Built r ⌝ }
 {
     PlusBuilt {
-        version: 900,
-        state: 254,
+        version: 1000,
+        state: 256,
     }
 }
 
@@ -105,34 +108,61 @@ pub extern "C" fn plus_write_7f(chip: Chip, byte: u8) -> Answered
     chip::ports::write_7f(chip, byte)
 }
 
-// A byte read from the page.
+// The host gives the table of owners; both undo records are empty then.
 #[no_mangle]
-pub extern "C" fn plus_page_read(chip: Chip, store: &[u8], address: u16, bus: u8) -> ByteRead
-    ensures { λ r. ⌜ Reads chip (now (store .entry)) address bus r ⌝ }
+pub extern "C" fn plus_start(chip: Chip, owners: Owners) -> Answered
+    ensures { λ r. ⌜ StartTold chip owners r ⌝ }
 {
-    page::page_read(chip, store, address, bus)
+    chip::table::start(chip, owners)
 }
 
-// A byte written to the page, and the write kept for undo.
+// A byte that an editor reads from the page.
+#[no_mangle]
+pub extern "C" fn plus_page_read(
+    chip: Chip,
+    editor: u8,
+    store: &[u8],
+    address: u16,
+    bus: u8,
+) -> ByteRead
+    ensures { λ r. ⌜ Reads chip (editorBy editor) (now (store .entry)) address bus r ⌝ }
+{
+    page::page_read(chip, editors::editor_by(editor), store, address, bus)
+}
+
+// A byte that an editor writes to the page, and the write kept for its undo.
 #[no_mangle]
 pub extern "C" fn plus_page_write(
     chip: Chip,
+    editor: u8,
     store: &mut [u8],
     places: &mut [u32; 256],
     address: u16,
     byte: u8,
 ) -> Answered
-    ensures { λ r. ⌜ Writes chip (now (store .entry)) (now (places .entry)) address byte (now (store .exit)) (now (places .exit)) r ⌝ }
+    ensures { λ r. ⌜ Writes chip (editorBy editor) (now (store .entry)) (now (places .entry)) address byte (now (store .exit)) (now (places .exit)) r ⌝ }
 {
-    page::page_write(chip, store, places, address, byte)
+    page::page_write(
+        chip,
+        editors::editor_by(editor),
+        store,
+        places,
+        address,
+        byte,
+    )
 }
 
-// The newest write that is kept, taken back.
+// The newest write of an editor's that is kept, taken back.
 #[no_mangle]
-pub extern "C" fn plus_undo(chip: Chip, store: &mut [u8], places: &[u32; 256]) -> Answered
-    ensures { λ r. ⌜ UndoTold chip (now (store .entry)) (now (places .entry)) (now (store .exit)) r ⌝ }
+pub extern "C" fn plus_undo(
+    chip: Chip,
+    editor: u8,
+    store: &mut [u8],
+    places: &[u32; 256],
+) -> Answered
+    ensures { λ r. ⌜ UndoTold chip (editorBy editor) (now (store .entry)) (now (places .entry)) (now (store .exit)) r ⌝ }
 {
-    page::undo(chip, store, places)
+    page::undo(chip, editors::editor_by(editor), store, places)
 }
 
 // The contents of the registers outside the pixels, into 477 bytes.
@@ -327,15 +357,17 @@ pub extern "C" fn plus_take_record(file: &[u8], number: usize) -> RecordRead
     take::record_at(file, number)
 }
 
-// Plays a take from reset.
+// Plays a take from reset, whose starts all give these owners.
 #[no_mangle]
 pub extern "C" fn plus_replay(
     ram: &[u8],
     store: &mut [u8],
-    places: &mut [u32; 256],
+    song: &mut [u32; 256],
+    picture: &mut [u32; 256],
+    owners: Owners,
     file: &[u8],
 ) -> Replayed
-    ensures { λ r. ⌜ Replays (now (ram .entry)) (now (store .entry)) (now (places .entry)) (now (file .entry)) (now (store .exit)) (now (places .exit)) r ⌝ }
+    ensures { λ r. ⌜ Replays (now (ram .entry)) (now (store .entry)) (now (song .entry)) (now (picture .entry)) owners (now (file .entry)) (now (store .exit)) (now (song .exit)) (now (picture .exit)) r ⌝ }
 {
-    replay::replay(ram, store, places, file)
+    replay::replay(ram, store, song, picture, owners, file)
 }

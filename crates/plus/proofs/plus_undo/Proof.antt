@@ -4,6 +4,9 @@ use Rattle.plus.proofs.Undo.{told}
 use Rattle.plus.proofs.plus_undo.Statement.{statement}
 use Rattle.plus.proofs.plus_undo.Tie as tie
 
+editor-by-requires : tie.Need-editor-by-requires
+editor-by-requires c κs = search needs
+
 undo-requires : tie.Need-undo-requires
 undo-requires c κs = search needs
 
@@ -11,7 +14,7 @@ same-length : tie.Need-same-length
 same-length c = search needs
 
 returns : tie.Need-returns
-returns c = told (c .before .before .undo .ensures)
+returns c = told (rw (c .before .before .before .before .editor-by .ensures) at (c .before .before .undo .ensures))
 
 pub plus-undo-spec : {M : Type 1} → statement M
-plus-undo-spec = tie.close (tie.spec undo-requires same-length returns)
+plus-undo-spec = tie.close (tie.spec editor-by-requires undo-requires same-length returns)

@@ -1,0 +1,224 @@
+-- While a table holds, neither editor is felt by the other.
+use mathlib.Core.Path.{_≡_, refl, ap}
+use mathlib.Core.Bool.{true}
+use mathlib.Core.List.{List}
+use Prim.Native.Nat.{ℕ}
+use Rattle.common.specs.Choice.{bit}
+use Rattle.editors.specs.declared.Editor.{Editor}
+use Rattle.editors.specs.declared.Owners.{Owners}
+use Rattle.editors.specs.declared.Table.{Table}
+use Rattle.editors.specs.Table.{other}
+use Rattle.editors.proofs.Which.{Which, own, another, which}
+use Rattle.ring.specs.Ring.{recordOf}
+use Rattle.sound.specs.declared.Accesses.{Accesses}
+use Rattle.chip.specs.Editors.{started}
+use Rattle.chip.specs.Ports.{selected, dataWritten, gateWritten}
+use Rattle.chip.specs.Interrupts.{acknowledged}
+use Rattle.chip.specs.Step.{stepAnswer, stepped, countersStepped}
+use Rattle.registers.specs.Address.{registerAt}
+use Rattle.contents.specs.Widths.{Widths}
+use Rattle.runs.specs.World.{World, withChip, Loan}
+use Rattle.runs.specs.Call.{Call, bc, bd, gate, read, write, undo, ack, line, start, lend, Reply, servedWorld, replyTo, worldAfter}
+use Rattle.runs.specs.Run.{Made, Makes, Run, ended, on, Each}
+use Rattle.runs.specs.Pair.{Beside, Throughout}
+use Rattle.runs.specs.Pair as pair
+use Rattle.runs.proofs.Calls.{by-answer, fixed}
+use Rattle.runs.proofs.Views.{view}
+use Rattle.runs.proofs.Within.{call-widths, within}
+use Rattle.runs.proofs.Pairs.{Local, side-by-side}
+use Rattle.noninterference.specs.TwoRuns.{PageCall, reads, writes, undoes, RamAlone, ram, Fair, Session, SameFor, Stays, Noninterference}
+use Rattle.noninterference.proofs.Puts.{contents-same, read-same}
+use Rattle.noninterference.proofs.Host.{acknowledge-blocks, data-blocks, select-blocks, gate-blocks, step-blocks, start-blocks}
+use Rattle.noninterference.proofs.Records.{Owned, reset-owned, run-owned, own-step, stays-step}
+use Rattle.noninterference.proofs.Sights.{Sight, sight-self, sight-back, sight-on, both-answer, read-leaves, others-leave, read-number, write-number, undo-number, write-both, undo-both}
+
+-- what is known before each call of the two runs
+pub record Known (t : Table) (i : ℕ) (w : World) : Type 0 where
+  pub stays : Stays t i w
+  pub owned : Owned w
+  pub widths : Widths (w .chip)
+
+-- and of the call
+pub record Asked (t : Table) (i : ℕ) (e : Editor) (w : World) (c : Call) : Type 0 where
+  pub known : Known t i w
+  pub fair : Fair t e c
+
+module _ (t : Table) (i : ℕ) (held : t .held ≡ true) (acknowledges : bit 0 i ≡ true) (e : Editor) where
+  -- ---- the host's calls that leave the editor's sight, each run by itself
+  data-leaves : (w : World) (b : ℕ) → Sight t e w (worldAfter w (bd b))
+  unfolding dataWritten
+  data-leaves w b =
+      by-answer (Sight t e w) w (bd b)
+      (λ z. record { blocks = data-blocks (w .chip) (w .lent .store) b; ram = refl; undo-record = refl; places = refl }) (sight-self w)
+
+  acknowledge-leaves : (w : World) → Stays t i w → Sight t e w (worldAfter w ack)
+  unfolding acknowledged
+  acknowledge-leaves w s =
+      by-answer (Sight t e w) w ack
+      (λ z.
+      record {
+        blocks = acknowledge-blocks (w .chip) (w .lent .store) (rw (s .ivr-same) acknowledges);
+        ram = refl;
+        undo-record = refl;
+        places = refl;
+      })
+      (sight-self w)
+
+  -- two runs over a call that leaves each
+  over-both : {w v x y : World} → Sight t e w v → Sight t e w x → Sight t e v y → Sight t e x y
+  over-both s p q = sight-on (sight-back p) (sight-on s q)
+
+  -- ---- those that change it alike
+  module _ (w v : World) (s : Sight t e w v) where
+    select-both : (b : ℕ) → Sight t e (worldAfter w (bc b)) (worldAfter v (bc b))
+    unfolding selected
+    select-both b = record { blocks = select-blocks (s .blocks) b; ram = s .ram; undo-record = s .undo-record; places = s .places }
+
+    gate-both : (b : ℕ) → Sight t e (worldAfter w (gate b)) (worldAfter v (gate b))
+    unfolding gateWritten
+    gate-both b =
+        both-answer (Sight t e) w v (gate b) refl
+        (λ z. record { blocks = gate-blocks (s .blocks) b; ram = s .ram; undo-record = s .undo-record; places = s .places }) s
+
+    line-both : (a : Accesses) → Sight t e (worldAfter w (line a)) (worldAfter v (line a))
+    unfolding stepped countersStepped
+    line-both a = both-answer (Sight t e) w v (line a) (ap stepAnswer (s .ram)) (λ z. go (v .lent .ram) (s .ram)) s
+      where
+        go : (r : List ℕ) → w .lent .ram ≡ r → Sight t e (servedWorld w (line a)) (withChip v (stepped r (v .chip)))
+        go r q =
+            record {
+              blocks = rw (← q) (step-blocks (s .blocks) (w .lent .ram));
+              ram = s .ram;
+              undo-record = s .undo-record;
+              places = s .places;
+            }
+
+    start-both : (o : Owners) → Sight t e (worldAfter w (start o)) (worldAfter v (start o))
+    unfolding started
+    start-both o = record { blocks = start-blocks (s .blocks) o; ram = s .ram; undo-record = refl; places = s .places }
+
+    lend-both : (l : Loan) → RamAlone l → Sight t e (worldAfter w (lend l)) (worldAfter v (lend l))
+    lend-both l (ram x) = record { blocks = s .blocks; ram = refl; undo-record = s .undo-record; places = s .places }
+
+  -- ---- a call of both runs
+  edit-both :
+      (w v : World) (f : Editor) (a b : ℕ) → Which e f → Known t i w → Known t i v → Sight t e w v →
+      Sight t e (worldAfter w (write f a b)) (worldAfter v (write f a b))
+  edit-both w v f a b own p q s = write-both held e w v (p .stays) (q .stays) (p .owned) s a b
+  edit-both w v f a b another p q s =
+      over-both s (others-leave held e w (p .stays) (p .owned) (p .widths .three) (write (other e) a b) (writes a b))
+      (others-leave held e v (q .stays) (q .owned) (q .widths .three) (write (other e) a b) (writes a b))
+
+  back-both :
+      (w v : World) (f : Editor) → Which e f → Known t i w → Known t i v → Sight t e w v →
+      Sight t e (worldAfter w (undo f)) (worldAfter v (undo f))
+  back-both w v f own p q s = undo-both held e w v (p .stays) (q .stays) (p .owned) s
+  back-both w v f another p q s =
+      over-both s (others-leave held e w (p .stays) (p .owned) (p .widths .three) (undo (other e)) undoes)
+      (others-leave held e v (q .stays) (q .owned) (q .widths .three) (undo (other e)) undoes)
+
+  call-both :
+      (w v : World) (c : Call) → Known t i w → Known t i v → Fair t e c → Sight t e w v → Sight t e (worldAfter w c) (worldAfter v c)
+  call-both w v (bc b) p q f s = select-both w v s b
+  call-both w v (bd b) p q f s = over-both s (data-leaves w b) (data-leaves v b)
+  call-both w v (gate b) p q f s = gate-both w v s b
+  call-both w v (read g a bus) p q f s =
+      over-both s (read-leaves held e w (p .stays) (p .owned) (p .widths .three) g a bus)
+      (read-leaves held e v (q .stays) (q .owned) (q .widths .three) g a bus)
+  call-both w v (write g a b) p q f s = edit-both w v g a b (which e g) p q s
+  call-both w v (undo g) p q f s = back-both w v g (which e g) p q s
+  call-both w v ack p q f s = over-both s (acknowledge-leaves w (p .stays)) (acknowledge-leaves v (q .stays))
+  call-both w v (line a) p q f s = line-both w v s a
+  call-both w v (start o) p q f s = start-both w v s o
+  call-both w v (lend l) p q f s = lend-both w v s l (f .hands .lends l refl)
+
+  -- ---- the editor's replies
+  reply-same :
+      (w v : World) (c : Call) → PageCall e c → Known t i w → Known t i v → Fair t e c → Sight t e w v → replyTo w c ≡ replyTo v c
+  reply-same w v c (reads a bus) p q f s =
+      rw (
+        read-number held e w v (p .stays) (q .stays) (p .owned) s a,
+        read-same t held e (s .blocks) (p .stays .table) (q .stays .table) (registerAt a) bus (f .reads a bus refl),
+      )
+  reply-same w v c (writes a b) p q f s = rw (write-number held e w v (p .stays) (q .stays) (p .owned) s a)
+  reply-same w v c undoes p q f s = rw (undo-number held e w v (p .stays) (q .stays) (p .owned) s)
+
+  local : Local (Asked t i e) (Sight t e) (PageCall (other e)) (PageCall e)
+  local =
+      record {
+        theirs-first =
+            λ w v c x a s.
+            let k = a .known in
+            sight-on (sight-back (others-leave held e w (k .stays) (k .owned) (k .widths .three) c x)) s;
+        theirs-second =
+            λ w v c x a s.
+            let k = a .known in
+            sight-on s (others-leave held e v (k .stays) (k .owned) (k .widths .three) c x);
+        on-both = λ w v c a b s. call-both w v c (a .known) (b .known) (a .fair) s;
+        replies = λ w v c x a b s. reply-same w v c x (a .known) (b .known) (a .fair) s;
+      }
+
+  -- ---- what is known stays known over a run
+  known-step : {w v : World} {c : Call} {r : Reply} → Makes w c r v → Fair t e c → Known t i w → Known t i v
+  known-step {w} {c = c} m f k =
+      record {
+        stays = stays-step held (view w c) m f (k .owned) (k .stays);
+        owned = own-step (view w c) m (f .typed) (f .hands) (k .owned);
+        widths = rw (fixed m .world-is) (call-widths w c (f .typed) (k .widths));
+      }
+
+  all-asked :
+      {w v : World} {es : List Made} → Run w es v → Each (λ m. Fair t e (m .asks)) es → Known t i w →
+      Each (λ m. Asked t i e (m .before) (m .asks)) es
+  all-asked ended f k = tt
+  all-asked (on m rest) f k = (record { known = k; fair = f .0 }, all-asked rest (f .1) (known-step m (f .0) k))
+
+  all-stay :
+      {w v : World} {es : List Made} → Run w es v → Each (λ m. Fair t e (m .asks)) es → Known t i w → Each (λ m. Stays t i (m .after)) es
+  all-stay ended f k = tt
+  all-stay (on m rest) f k = let n = known-step m (f .0) k in (n .stays, all-stay rest (f .1) n)
+
+-- what the editor can tell by its sight
+told-by : {t : Table} {e : Editor} (w v : World) → t .held ≡ true → Sight t e w v → SameFor t e w v
+unfolding recordOf
+told-by {t} {e} w v held s =
+    record {
+      entries = rw (s .undo-record, s .places);
+      contents-owned = contents-same t held e (s .blocks);
+      mapped = s .blocks .mapped;
+    }
+
+told-throughout :
+    {Theirs : Call → Type 0} {es fs : List Made} (t : Table) (ed : Editor) (w v : World) → t .held ≡ true → (b : Beside Theirs es fs) →
+    Throughout (Sight t ed) w v b → Throughout (SameFor t ed) w v b
+told-throughout t ed w v held pair.ended s = told-by w v held s
+told-throughout t ed w v held (pair.first {e} x rest) s = (told-by w v held (s .0), told-throughout t ed (e .after) v held rest (s .1))
+told-throughout t ed w v held (pair.second {f} x rest) s = (told-by w v held (s .0), told-throughout t ed w (f .after) held rest (s .1))
+told-throughout t ed w v held (pair.both {e} {f} p rest) s = (told-by w v held (s .0), told-throughout t ed (e .after) (f .after) held rest (s .1))
+
+-- a session is known
+session-known : {t : Table} {w : World} → Session t w → Known t (w .chip .interrupts .ivr) w
+session-known s =
+    record {
+      stays = record { table = s .table; ivr-same = refl };
+      owned = run-owned (s .reached .run) (s .reached .typed) (s .hands) (reset-owned (s .reached .fresh .chip));
+      widths = within (s .reached);
+    }
+
+pub noninterference : (t : Table) → Noninterference t
+noninterference t =
+    record {
+      unaffected =
+          λ e {w} s m n f g b.
+          let k = session-known s in
+          let i = w .chip .interrupts .ivr in
+          let p = all-asked t i (s .held) (s .ivr) e m f k in
+          let q = all-asked t i (s .held) (s .ivr) e n g k in
+          let a = side-by-side (local t i (s .held) (s .ivr) e) b m n p q (sight-self w) in
+          record {
+            replies = a .same;
+            throughout = told-throughout t e w w (s .held) b (a .views);
+            first-stays = all-stay t i (s .held) (s .ivr) e m f k;
+            second-stays = all-stay t i (s .held) (s .ivr) e n g k;
+          };
+    }

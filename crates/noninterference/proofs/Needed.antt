@@ -1,0 +1,467 @@
+-- Each premise is needed: without it two runs from reset break the claim.
+use mathlib.Core.Path.{_≡_, refl, ap, sym, _∙_, subst}
+use mathlib.Core.Bool.{Bool, true, false}
+use mathlib.Core.List.{List, [], _∷_, _++_, map}
+use Prim.Native.Nat.{ℕ, _+_, _*_}
+use native.Mathlib.Omega.{arith}
+use borrow.Author.Tests.{ltb-true}
+use lib.Dec.{ltb}
+use lib.ListN.{length, replicate, length-replicate, length-set}
+use Rattle.common.specs.Choice.{both, bit}
+use Rattle.common.proofs.Tests.{both-true}
+use Rattle.editors.specs.declared.Editor.{Editor}
+use Rattle.editors.specs.declared.Editor.the-variants.{Song, Picture}
+use Rattle.editors.specs.declared.Owners.{Owners}
+use Rattle.editors.specs.declared.Table.{Table}
+use Rattle.editors.specs.Table.{noTable, other, holding}
+use Rattle.ring.specs.declared.Undo.{Undo}
+use Rattle.ring.specs.Ring.{pushed}
+use Rattle.lock.specs.Machine.{key, fed, nextStage}
+use Rattle.lock.proofs.Steps.{fresh as fresh-lock}
+use Rattle.picture.specs.Sprites.{offSprite, written, shown, coordinate}
+use Rattle.crtc.specs.Line.{rasterDue, splitDue, captured, frameEnds, frameStart, nextLine, lineOf}
+use Rattle.words.specs.Words.{kindOf}
+use Rattle.sound.specs.declared.Access.the-variants.{Off}
+use Rattle.sound.specs.declared.Accesses.{Accesses}
+use Rattle.sound.specs.declared.Channel.{Channel as Voice}
+use Rattle.sound.specs.declared.Sound.{Sound}
+use Rattle.sound.specs.Channels.{wordAt, pauseCounted, active, fetched, controlled, turnOf}
+use Rattle.sound.specs.Line.{offChannel, soundAfter}
+use Rattle.chip.specs.declared.Chip.{Chip}
+use Rattle.chip.specs.declared.Editing.{Editing}
+use Rattle.chip.specs.Editors.{noEntries, started}
+use Rattle.chip.specs.Reset.{resetCrtc, resetVideo, resetSound, resetChip}
+use Rattle.chip.specs.Ports.{selected, gateAnswer, gateAfter, gateWritten}
+use Rattle.chip.specs.Interrupts.{sourceOf, acknowledgeAnswer, acknowledged, soundServed}
+use Rattle.chip.specs.Step.{stepAnswer, countersStepped, stepped}
+use Rattle.registers.specs.Address.{registerAt, spriteAt, videoAt, channelAt}
+use Rattle.registers.specs.Registers.{dcsr}
+use Rattle.page.specs.Page.{pageAnswer, readAnswer, writeAnswer, pageWritten, placesAfter}
+use Rattle.runs.specs.World.{World, Buffers, placesOf}
+use Rattle.runs.specs.Call.{Call, bc, gate, read, write, ack, line, start, Reply, byte, Typed, replyTo, worldAfter}
+use Rattle.runs.specs.Run.{Made, Run, Each, madeOver, worldOver}
+use Rattle.runs.specs.Reached.{Reached}
+use Rattle.runs.specs.Pair.{Beside, ended, first, both as same}
+use Rattle.runs.proofs.Calls.{AllPlaces}
+use Rattle.runs.proofs.Runs.{run-possible}
+use Rattle.noninterference.specs.TwoRuns.{PageCall, reads, writes, ownOrDcsr, HandsOn, Fair, Session, Unaffected}
+use Rattle.noninterference.proofs.Claim.{noninterference}
+use Rattle.noninterference.proofs.Exist.{differ, Every, every, each-made, all-whole, theirs-fair}
+
+-- the claim, by what is asked of the world where the two runs begin and of each of their calls
+pub record Claims (Begins : Table → World → Type 0) (Asks : Table → Editor → Call → Type 0) (t : Table) : Type 0 where
+  pub unaffected :
+      (e : Editor) {w v u : World} {es fs : List Made} → Begins t w → Run w es v → Run w fs u → Each (λ m. Asks t e (m .asks)) es →
+      Each (λ m. Asks t e (m .asks)) fs → (b : Beside (PageCall (other e)) es fs) → Unaffected t e w b
+
+pub claimed : (t : Table) → Claims Session Fair t
+claimed t = record { unaffected = λ e s m n f g b. noninterference t .unaffected e s m n f g b }
+
+-- a session, whatever IVR is
+pub record AnyIvr (t : Table) (w : World) : Type 0 where
+  pub begun : World
+  pub log : List Made
+  pub reached : Reached begun log w
+  pub hands : Each (λ m. HandsOn (m .asks)) log
+  pub table : w .chip .editing .table ≡ t
+  pub held : t .held ≡ true
+
+-- calls of which the editor's reads may be any, and those of which the starts may be any
+pub record AnyRead (t : Table) (e : Editor) (c : Call) : Type 0 where
+  pub typed : Typed c
+  pub starts : (o : Owners) → c ≡ start o → holding o ≡ t
+  pub hands : HandsOn c
+
+pub record AnyStart (t : Table) (e : Editor) (c : Call) : Type 0 where
+  pub typed : Typed c
+  pub reads : (a bus : ℕ) → c ≡ read e a bus → ownOrDcsr t e (registerAt a) ≡ true
+  pub hands : HandsOn c
+
+-- the claim holds where a session and fair calls follow from what is asked
+all-fair :
+    (Asks : Table → Editor → Call → Type 0) (t : Table) (e : Editor) → ((c : Call) → Asks t e c → Fair t e c) → (es : List Made) →
+    Each (λ m. Asks t e (m .asks)) es → Each (λ m. Fair t e (m .asks)) es
+all-fair Asks t e fair [] f = tt
+all-fair Asks t e fair (m ∷ es) f = (fair (m .asks) (f .0), all-fair Asks t e fair es (f .1))
+
+holds :
+    (Begins : Table → World → Type 0) (Asks : Table → Editor → Call → Type 0) (t : Table) → ((w : World) → Begins t w → Session t w) →
+    ((e : Editor) (c : Call) → Asks t e c → Fair t e c) → Claims Begins Asks t
+holds Begins Asks t session fair =
+    record {
+      unaffected =
+          λ e {w} {v} {u} {es} {fs} s m n f g b.
+          claimed t .unaffected e (session w s) m n (all-fair Asks t e (fair e) es f) (all-fair Asks t e (fair e) fs g) b;
+    }
+
+-- with the premise that was left out
+pub record ThatIvr (t : Table) (w : World) : Type 0 where
+  pub rest : AnyIvr t w
+  pub ivr : bit 0 (w .chip .interrupts .ivr) ≡ true
+
+pub record OwnReads (t : Table) (e : Editor) (c : Call) : Type 0 where
+  pub rest : AnyRead t e c
+  pub reads : (a bus : ℕ) → c ≡ read e a bus → ownOrDcsr t e (registerAt a) ≡ true
+
+pub record SameStarts (t : Table) (e : Editor) (c : Call) : Type 0 where
+  pub rest : AnyStart t e c
+  pub starts : (o : Owners) → c ≡ start o → holding o ≡ t
+
+with-ivr : (t : Table) → Claims ThatIvr Fair t
+with-ivr t =
+    holds ThatIvr Fair t
+    (λ w s.
+    record {
+      begun = s .rest .begun;
+      log = s .rest .log;
+      reached = s .rest .reached;
+      hands = s .rest .hands;
+      table = s .rest .table;
+      held = s .rest .held;
+      ivr = s .ivr;
+    })
+    (λ e c f. f)
+
+with-reads : (t : Table) → Claims Session OwnReads t
+with-reads t =
+    holds Session OwnReads t (λ w s. s)
+    (λ e c f. record { typed = f .rest .typed; reads = f .reads; starts = f .rest .starts; hands = f .rest .hands })
+
+with-starts : (t : Table) → Claims Session SameStarts t
+with-starts t =
+    holds Session SameStarts t (λ w s. s)
+    (λ e c f. record { typed = f .rest .typed; reads = f .rest .reads; starts = f .starts; hands = f .rest .hands })
+
+any-read : {t : Table} {e : Editor} {c : Call} → Fair t e c → AnyRead t e c
+any-read f = record { typed = f .typed; starts = f .starts; hands = f .hands }
+
+any-start : {t : Table} {e : Editor} {c : Call} → Fair t e c → AnyStart t e c
+any-start f = record { typed = f .typed; reads = f .reads; hands = f .hands }
+
+-- ---- where the two runs begin: from reset the unlocking bytes, then a byte that maps the page, then what else is given
+
+-- buffers of the right lengths, with a word with INT at the start of RAM
+record Lent (l : Buffers) : Type 0 where
+  ram-size : length (l .ram) ≡ 65536
+  word : wordAt (l .ram) 0 ≡ 0x4010
+  store-size : length (l .store) ≡ 4096
+  places : (e : Editor) → length (placesOf l e) ≡ 256
+
+abbrev opensThen : List Call → List Call
+opensThen cs = map bc (1 ∷ 0 ∷ key ++ (0 ∷ [])) ++ gate 0xb8 ∷ cs
+
+abbrev fresh : Buffers → World
+fresh l = record { chip = resetChip; lent = l }
+
+-- a call whose arguments have its types, and which lends nothing
+record Good (c : Call) : Type 0 where
+  typed : Typed c
+  hands : HandsOn c
+
+select-good : (b : ℕ) → ltb b 256 ≡ true → Good (bc b)
+select-good b h = record { typed = ltb-true b 256 h; hands = record { lends = λ l q. differ cc } }
+
+small : List ℕ → Bool
+small [] = true
+small (b ∷ bs) = both (ltb b 256) (small bs)
+
+selects-good : (bs : List ℕ) (cs : List Call) → small bs ≡ true → Every Good cs → Every Good (map bc bs ++ cs)
+unfolding small
+selects-good [] cs h k = k
+selects-good (b ∷ bs) cs h k =
+    let (i, j) = both-true (ltb b 256) (small bs) h in
+    (select-good b i, selects-good bs cs j k)
+
+opens-good : (cs : List Call) → Every Good cs → Every Good (opensThen cs)
+unfolding small
+opens-good cs k =
+    selects-good (1 ∷ 0 ∷ key ++ (0 ∷ [])) (gate 0xb8 ∷ cs) refl
+    (record { typed = omega arith; hands = record { lends = λ l q. differ cc } }, k)
+
+-- buffers are handed on over such calls, and the world that they come to is reached
+begins-hands :
+    (l : Buffers) (cs : List Call) → Every Good cs → Each (λ m. HandsOn (m .asks)) (madeOver (fresh l) (opensThen cs))
+begins-hands l cs k =
+    each-made HandsOn (opensThen cs) (fresh l) (every Good HandsOn (λ c g. g .hands) (opensThen cs) (opens-good cs k))
+
+begins :
+    (l : Buffers) (cs : List Call) (w : World) → Lent l → Every Good cs → worldOver (fresh l) (opensThen cs) ≡ w →
+    Reached (fresh l) (madeOver (fresh l) (opensThen cs)) w
+unfolding resetChip
+begins l cs w s k q =
+    let good = opens-good cs k in
+    let whole = all-whole (opensThen cs) (every Good HandsOn (λ c g. g .hands) (opensThen cs) good) in
+    record {
+      fresh = record { chip = refl; tracks = fresh-lock (resetChip .lock) refl .tracks };
+      run = subst (λ v. Run (fresh l) (madeOver (fresh l) (opensThen cs)) v) q (run-possible (opensThen cs) (fresh l) (s .places) whole);
+      typed = each-made Typed (opensThen cs) (fresh l) (every Good Typed (λ c g. g .typed) (opensThen cs) good);
+    }
+
+start-good : (o : Owners) → Good (start o)
+start-good o = record { typed = tt; hands = record { lends = λ l q. differ cc } }
+
+-- ---- two runs that break it: the song editor's last read shows other bytes
+two-runs :
+    {Begins : Table → World → Type 0} {Asks : Table → Editor → Call → Type 0} {t : Table} → Claims Begins Asks t →
+    ((c : Call) → Asks t Song c → HandsOn c) → (w : World) (cs ds : List Call) → Begins t w → AllPlaces w → Every (Asks t Song) cs →
+    Every (Asks t Song) ds → (b : Beside (PageCall Picture) (madeOver w cs) (madeOver w ds)) → Unaffected t Song w b
+two-runs {Asks = Asks} {t = t} claim hands w cs ds s p f g b =
+    let on = every (Asks t Song) HandsOn hands in
+    claim .unaffected Song s (run-possible cs w p (all-whole cs (on cs f))) (run-possible ds w p (all-whole ds (on ds g)))
+    (each-made (Asks t Song) cs w f) (each-made (Asks t Song) ds w g) b
+
+abbrev shows : ℕ → Reply
+shows b = record { answer = 0; told = byte b }
+
+other-bytes : (m n : ℕ) → (m ≡ n → ⊥) → shows m ≡ shows n → ⊥
+other-bytes m n d q = let p : byte m ≡ byte n = ap (λ (r : Reply). r .told) q in d cc
+
+-- ---- a read of the other's sprite, and a start that gives a sprite to the other: it moves the sprite in the one run alone
+
+-- a chip from reset that is unlocked, with the page mapped
+abbrev mappedChip : Sound → ℕ → Editing → Chip
+mappedChip s ivr x =
+    record {
+      lock = record { unlocked = true; stage = 2 };
+      gate = record { mode = 0; mapped = true };
+      crtc = resetCrtc;
+      video = resetVideo;
+      sprites = replicate 16 offSprite;
+      palette = replicate 64 0;
+      sound = s;
+      interrupts = record { raster = false; «last_raster» = false; ivr = ivr };
+      editing = x;
+    }
+
+abbrev justHeld : Owners → Editing
+justHeld o = record { table = holding o; song = noEntries; picture = noEntries }
+
+abbrev held : Buffers → Owners → World
+held l o = record { chip = mappedChip resetSound 1 (justHeld o); lent = l }
+
+begins-held : (l : Buffers) (o : Owners) → worldOver (fresh l) (opensThen (start o ∷ [])) ≡ held l o
+unfolding resetChip selected fed nextStage gateWritten gateAfter gateAnswer started
+begins-held l o = refl
+
+session : (l : Buffers) (o : Owners) → Lent l → Session (holding o) (held l o)
+session l o s =
+    record {
+      begun = fresh l;
+      log = madeOver (fresh l) (opensThen (start o ∷ []));
+      reached = begins l (start o ∷ []) (held l o) s (start-good o, tt) (begins-held l o);
+      hands = begins-hands l (start o ∷ []) (start-good o, tt);
+      table = refl;
+      held = refl;
+      ivr = refl;
+    }
+
+abbrev firstPicture : Owners
+firstPicture = record { channels = 0; sprites = 1; palette = 0 }
+
+abbrev allSong : Owners
+allSong = record { channels = 0; sprites = 0; palette = 0 }
+
+abbrev moves : Call
+moves = write Picture 0x6000 5
+
+abbrev looks : Call
+looks = read Song 0x6000 0
+
+moved :
+    (l : Buffers) → length (l .store) ≡ 4096 → replyTo (worldAfter (held l firstPicture) moves) looks ≡ shows 5
+unfolding writeAnswer pageAnswer readAnswer registerAt spriteAt pageWritten written shown coordinate placesAfter
+moved l h = rw h (rw h refl)
+
+unmoved : (l : Buffers) → length (l .store) ≡ 4096 → replyTo (held l firstPicture) looks ≡ shows 0
+unfolding pageAnswer readAnswer registerAt spriteAt shown
+unmoved l h = rw h refl
+
+moves-fair : (t : Table) → Fair t Song moves
+moves-fair t = theirs-fair t Song moves (writes 0x6000 5) (omega arith, omega arith)
+
+read-breaks : (l : Buffers) → Lent l → Claims Session AnyRead (holding firstPicture) → ⊥
+read-breaks l s claim =
+    let t = holding firstPicture in
+    let w = held l firstPicture in
+    let asked : AnyRead t Song looks =
+    record { typed = (omega arith, omega arith); starts = λ o q. differ cc; hands = record { lends = λ k q. differ cc } } in
+    let u =
+    two-runs claim (λ c f. f .hands) w (moves ∷ looks ∷ []) (looks ∷ []) (session l firstPicture s) (s .places)
+    (any-read (moves-fair t), (asked, tt)) (asked, tt) (first (writes 0x6000 5) (same refl ended)) in
+    other-bytes 5 0 (λ q. omega arith) (sym (moved l (s .store-size)) ∙ u .replies .0 (reads 0x6000 0) ∙ unmoved l (s .store-size))
+
+looks-own : (a bus : ℕ) → looks ≡ read Song a bus → ownOrDcsr (holding allSong) Song (registerAt a) ≡ true
+unfolding registerAt spriteAt
+looks-own a bus q = let p : 0x6000 ≡ a = cc in rw (← p) refl
+
+start-breaks : (l : Buffers) → Lent l → Claims Session AnyStart (holding allSong) → ⊥
+unfolding started
+start-breaks l s claim =
+    let t = holding allSong in
+    let w = held l allSong in
+    let asked : AnyStart t Song looks =
+    record { typed = (omega arith, omega arith); reads = looks-own; hands = record { lends = λ k q. differ cc } } in
+    let gives : AnyStart t Song (start firstPicture) =
+    record { typed = tt; reads = λ a bus q. differ cc; hands = record { lends = λ k q. differ cc } } in
+    let u =
+    two-runs claim (λ c f. f .hands) w (start firstPicture ∷ moves ∷ looks ∷ []) (start firstPicture ∷ looks ∷ []) (session l allSong s)
+    (s .places) (gives, (any-start (moves-fair t), (asked, tt))) (gives, (asked, tt))
+    (same refl (first (writes 0x6000 5) (same refl ended))) in
+    other-bytes 5 0 (λ q. omega arith) (sym (moved l (s .store-size)) ∙ u .replies .1 .0 (reads 0x6000 0) ∙ unmoved l (s .store-size))
+
+-- ---- IVR bit 0 at 0: channels 0 and 2 meet an INT on the same line, and channel 2 is the picture editor's. It clears its own interrupt in
+-- the one run alone; the acknowledge then takes the song editor's
+
+abbrev lastPicture : Owners
+lastPicture = record { channels = 4; sprites = 0; palette = 0 }
+
+abbrev off : Accesses
+off = record { first = Off; second = Off; third = Off }
+
+-- IVR is 0, the two channels are enabled, a line passes, the table is given
+abbrev raises : List Call
+raises = write Song 0x6805 0 ∷ write Song 0x6c0f 5 ∷ line off ∷ start lastPicture ∷ []
+
+-- a channel that is enabled, and after its INT
+abbrev playing : Voice
+playing = record { enabled = true; interrupt = false; address = 0; prescale = 0; pause = 0; count = 0; counter = 0; mark = 0 }
+
+abbrev waits : Voice
+waits = record { enabled = true; interrupt = true; address = 2; prescale = 0; pause = 0; count = 0; counter = 0; mark = 0 }
+
+abbrev firstAndLast : Voice → Sound
+firstAndLast d = record { channels = d ∷ offChannel ∷ d ∷ []; psg = replicate 16 0 }
+
+abbrev unheld : Undo → Editing
+unheld u = record { table = noTable; song = u; picture = noEntries }
+
+-- the write of IVR is in the song editor's record
+abbrev noted : Buffers → Buffers
+noted l =
+    record {
+      ram = l .ram;
+      store = l .store;
+      song = placesAfter (mappedChip resetSound 1 (unheld noEntries)) Song (l .store) (l .song) 0x6805;
+      picture = l .picture;
+    }
+
+abbrev sounding : Buffers → Voice → World
+sounding l d = record { chip = mappedChip (firstAndLast d) 0 (unheld (pushed noEntries)); lent = noted l }
+
+abbrev waiting : Buffers → World
+waiting l = record { chip = mappedChip (firstAndLast waits) 0 (justHeld lastPicture); lent = noted l }
+
+opened : (l : Buffers) (cs : List Call) →
+    worldOver (fresh l) (opensThen cs) ≡ worldOver (record { chip = mappedChip resetSound 1 (unheld noEntries); lent = l }) cs
+unfolding resetChip selected fed nextStage gateWritten gateAfter gateAnswer
+opened l cs = refl
+
+enabled :
+    (l : Buffers) → length (l .store) ≡ 4096 →
+    worldOver (record { chip = mappedChip resetSound 1 (unheld noEntries); lent = l }) (write Song 0x6805 0 ∷ write Song 0x6c0f 5 ∷ []) ≡ sounding l playing
+unfolding writeAnswer pageAnswer registerAt videoAt channelAt pageWritten placesAfter
+enabled l h = rw h (rw h refl)
+
+interrupts :
+    (l : Buffers) → length (l .ram) ≡ 65536 → wordAt (l .ram) 0 ≡ 0x4010 → worldAfter (sounding l playing) (line off) ≡ sounding l waits
+unfolding stepAnswer stepped countersStepped soundAfter turnOf pauseCounted active fetched controlled kindOf lineOf rasterDue splitDue captured frameEnds frameStart nextLine
+interrupts l h k = rw (h, k) refl
+
+begins-waiting : (l : Buffers) → Lent l → worldOver (fresh l) (opensThen raises) ≡ waiting l
+unfolding started
+begins-waiting l s =
+    opened l raises ∙ ap (λ (w : World). worldOver w (line off ∷ start lastPicture ∷ [])) (enabled l (s .store-size))
+    ∙ ap (λ (w : World). worldAfter w (start lastPicture)) (interrupts l (s .ram-size) (s .word))
+
+raises-good : Every Good raises
+raises-good = (
+  record { typed = (omega arith, omega arith); hands = record { lends = λ l q. differ cc } },
+  (
+    record { typed = (omega arith, omega arith); hands = record { lends = λ l q. differ cc } },
+    (record { typed = tt; hands = record { lends = λ l q. differ cc } }, (start-good lastPicture, tt)),
+  ),
+)
+
+any-ivr : (l : Buffers) → Lent l → AnyIvr (holding lastPicture) (waiting l)
+any-ivr l s =
+    record {
+      begun = fresh l;
+      log = madeOver (fresh l) (opensThen raises);
+      reached = begins l raises (waiting l) s raises-good (begins-waiting l s);
+      hands = begins-hands l raises raises-good;
+      table = refl;
+      held = refl;
+    }
+
+waiting-places : (l : Buffers) → Lent l → AllPlaces (waiting l)
+unfolding placesAfter registerAt videoAt
+waiting-places l s Song = length-set (l .song) 0 (0x6805 * 256 + 1) ∙ s .places Song
+waiting-places l s Picture = s .places Picture
+
+abbrev clears : Call
+clears = write Picture 0x6c0f 0x10
+
+abbrev asks : Call
+asks = read Song 0x6c0f 0
+
+taken : (l : Buffers) → length (l .store) ≡ 4096 → replyTo (worldAfter (worldAfter (waiting l) clears) ack) asks ≡ shows 1
+unfolding writeAnswer pageAnswer readAnswer registerAt channelAt pageWritten acknowledgeAnswer acknowledged sourceOf soundServed dcsr
+taken l h = rw h (rw h refl)
+
+left-waiting : (l : Buffers) → length (l .store) ≡ 4096 → replyTo (worldAfter (waiting l) ack) asks ≡ shows 65
+unfolding pageAnswer readAnswer registerAt channelAt acknowledgeAnswer acknowledged sourceOf soundServed dcsr
+left-waiting l h = rw h refl
+
+asks-dcsr : (a bus : ℕ) → asks ≡ read Song a bus → ownOrDcsr (holding lastPicture) Song (registerAt a) ≡ true
+unfolding registerAt channelAt
+asks-dcsr a bus q = let p : 0x6c0f ≡ a = cc in rw (← p) refl
+
+ivr-breaks : (l : Buffers) → Lent l → Claims AnyIvr Fair (holding lastPicture) → ⊥
+ivr-breaks l s claim =
+    let t = holding lastPicture in
+    let host : Fair t Song ack =
+    record { typed = tt; reads = λ a bus q. differ cc; starts = λ o q. differ cc; hands = record { lends = λ k q. differ cc } } in
+    let asked : Fair t Song asks =
+    record {
+      typed = (omega arith, omega arith);
+      reads = asks-dcsr;
+      starts = λ o q. differ cc;
+      hands = record { lends = λ k q. differ cc };
+    } in
+    let cleared = theirs-fair t Song clears (writes 0x6c0f 0x10) (omega arith, omega arith) in
+    let u =
+    two-runs claim (λ c f. f .hands) (waiting l) (clears ∷ ack ∷ asks ∷ []) (ack ∷ asks ∷ []) (any-ivr l s) (waiting-places l s)
+    (cleared, (host, (asked, tt))) (host, (asked, tt)) (first (writes 0x6c0f 0x10) (same refl (same refl ended))) in
+    other-bytes 1 65 (λ q. omega arith) (sym (taken l (s .store-size)) ∙ u .replies .1 .0 (reads 0x6c0f 0) ∙ left-waiting l (s .store-size))
+
+-- ---- there are such buffers
+
+abbrev buffers : Buffers
+buffers =
+    record { ram = 0x10 ∷ 0x40 ∷ replicate 65534 0; store = replicate 4096 0; song = replicate 256 0; picture = replicate 256 0 }
+
+lent : Lent buffers
+unfolding wordAt
+lent =
+    record {
+      ram-size = omega (arith, length-replicate {A = ℕ} 65534 0);
+      word = refl;
+      store-size = length-replicate {A = ℕ} 4096 0;
+      places = each;
+    }
+  where
+    each : (e : Editor) → length (placesOf buffers e) ≡ 256
+    each Song = length-replicate {A = ℕ} 256 0
+    each Picture = length-replicate {A = ℕ} 256 0
+
+-- ---- with IVR bit 0 at 1 the claim holds for every table, without that it fails for one
+pub needs-ivr : ((t : Table) → Claims ThatIvr Fair t) × (Claims AnyIvr Fair (holding lastPicture) → ⊥)
+needs-ivr = (with-ivr, ivr-breaks buffers lent)
+
+-- so it is with reads of what the editor owns and DCSR alone
+pub needs-reads : ((t : Table) → Claims Session OwnReads t) × (Claims Session AnyRead (holding firstPicture) → ⊥)
+needs-reads = (with-reads, read-breaks buffers lent)
+
+-- and with starts that give the table that holds
+pub needs-starts : ((t : Table) → Claims Session SameStarts t) × (Claims Session AnyStart (holding allSong) → ⊥)
+needs-starts = (with-starts, start-breaks buffers lent)
