@@ -11,19 +11,28 @@
  * a drawn line, PLUS_EXPORT for an export. A text and a take have any number of bytes, and the length of sound words and of
  * records is counted in these. The buffers of one call must not overlap.
  *
- * The page writes that can be undone stand in PLUS_PLACES numbers, which a host keeps beside the chip: it lends the same ones,
- * as the last call left them, to every page write and undo of that chip. They need not be set at first, nor after a reset. The
- * newest is at place editing.undo.next - 1 (255 where that is 0), the one before it at the place before, and so on round, as
- * many as editing.undo.count says; each is the address written to, times 256, plus the register's contents before.
+ * Two editors work on one chip: page read, page write and undo take the number of the one that makes them, PLUS_SONG or
+ * PLUS_PICTURE. plus_start gives a table of which of them may write what: bit n of its numbers is palette entry (both bytes),
+ * sprite (registers and pixels) or channel (start address, prescale and its bits of DCSR) n, and set for the picture editor. While
+ * a table holds, PRI, the split and SSCR are the picture editor's, IVR is neither's, and a write to what is not the editor's is
+ * refused with PLUS_NOT_YOURS; a DCSR write is served for both, touches the writer's own channels alone, and a DCSR read shows
+ * those of the reader and 0 elsewhere. It holds until the next start or reset. While none holds both may write everything, and a
+ * host with one editor can take either number, always the same.
+ *
+ * The page writes that an editor can undo stand in PLUS_PLACES numbers, which a host keeps beside the chip, others for each editor:
+ * it lends that editor's, as the last call left them, to each of its page writes and undos of that chip. They need not be set at
+ * first, nor after a reset or a start. The song editor's newest is at place editing.song.next - 1 (255 where that is 0), the one
+ * before it at the place before, and so on round, as many as editing.song.count says; each is the address written to, times 256,
+ * plus the register's contents before. The picture editor's stand so by editing.picture.
  *
  * A slider sends an event for every step of a gesture, and each write is kept by itself: a long gesture fills the places, and takes
  * as many undos to take back. To keep one entry a gesture, take back the last event's write before each further one:
  *
- *     if (!first_event) chip = plus_undo(chip, store, PLUS_STORE, places).chip;
- *     chip = plus_page_write(chip, store, PLUS_STORE, places, address, value).chip;
+ *     if (!first_event) chip = plus_undo(chip, editor, store, PLUS_STORE, places).chip;
+ *     chip = plus_page_write(chip, editor, store, PLUS_STORE, places, address, value).chip;
  *
- * The entry then has the contents from before the gesture, and one undo brings them back. Between two events no other page write
- * may be made, since undo would take back that one. DCSR is not kept, so it needs none of this.
+ * The entry then has the contents from before the gesture, and one undo brings them back. Between two events that editor may make
+ * no other page write, since undo would take back that one. DCSR is not kept, so it needs none of this.
  *
  * A take is a file: a comment of any bytes, records of PLUS_TAKE_RECORD bytes, and a trailer of PLUS_TAKE_TRAILER bytes, which has
  * the record count, the offset of the first record, 4 bytes each, and the letters PLTK. A record has the line number in 4 bytes,
@@ -42,8 +51,8 @@ extern "C" {
 /* The version of this header: 10000 times the major number, 100 times the minor one, and the patch. Another patch changes nothing
  * that a caller could see; with another minor or major number a struct may have another layout, the state above all. What each
  * version changes for a caller is in CHANGELOG.md. */
-#define PLUS_VERSION 900
-#define PLUS_VERSION_TEXT "0.9.0"
+#define PLUS_VERSION 1000
+#define PLUS_VERSION_TEXT "0.10.0"
 
 enum { PLUS_RAM = 65536, PLUS_STORE = 4096, PLUS_LINE = 640, PLUS_EXPORT = 477, PLUS_PLACES = 256 };
 
@@ -72,7 +81,8 @@ enum {
     PLUS_NO_TRAILER = 11,      /* the file is shorter than a trailer, or has other letters at its end */
     PLUS_NOT_MET = 12,         /* the records, by the trailer's offset and count, don't end where the trailer begins */
     PLUS_BAD_RECORD = 13,      /* a record is bad */
-    PLUS_NO_ROOM = 14          /* the buffer has no room for the take, or its count or offset has no room in 4 bytes */
+    PLUS_NO_ROOM = 14,         /* the buffer has no room for the take, or its count or offset has no room in 4 bytes */
+    PLUS_NOT_YOURS = 15        /* the register is not this editor's; no other number applies where this one does */
 };
 
 /* What a channel did on a line. */
@@ -93,15 +103,29 @@ enum {
     PLUS_PSG_WRITE = 2 /* it writes a PSG register there: the LOAD takes two more */
 };
 
-/* The kind of a record: which call it is. */
+/* Who makes a page read, a page write or an undo. Any number above 1 is the picture editor too. */
+enum { PLUS_SONG = 0, PLUS_PICTURE = 1 };
+
+/* The kind of a record: which call it is. The page writes alone have an address; acknowledge, undos and start have no value. */
 enum {
     PLUS_TAKE_WRITE_BC = 1,
     PLUS_TAKE_WRITE_BD = 2,
     PLUS_TAKE_WRITE_7F = 3,
-    PLUS_TAKE_PAGE_WRITE = 4,  /* the only one with an address */
-    PLUS_TAKE_ACKNOWLEDGE = 5, /* neither this nor undo has a value */
-    PLUS_TAKE_UNDO = 6
+    PLUS_TAKE_PAGE_WRITE = 4, /* the song editor's */
+    PLUS_TAKE_ACKNOWLEDGE = 5,
+    PLUS_TAKE_UNDO = 6,          /* the song editor's */
+    PLUS_TAKE_PICTURE_WRITE = 7, /* the picture editor's page write */
+    PLUS_TAKE_PICTURE_UNDO = 8,  /* the picture editor's undo */
+    PLUS_TAKE_START = 9          /* with the one table that plus_replay is lent */
 };
+
+/* Who may write what: bit n is palette entry, sprite or channel n, and set for the picture editor. Every number is a table; of the
+ * channels the low 3 bits are kept. */
+typedef struct {
+    uint32_t palette;
+    uint16_t sprites;
+    uint8_t channels;
+} PlusTable;
 
 /* The state. */
 
@@ -122,8 +146,8 @@ typedef struct {
 typedef struct {
     uint8_t vc, rc;
     bool adjust;
-    uint16_t address; /* the current line's screen address */
     bool held;        /* a captured split address waits in `split` */
+    uint16_t address; /* the current line's screen address */
     uint16_t split;
 } PlusCounters;
 
@@ -144,10 +168,10 @@ typedef struct {
 
 typedef struct {
     bool enabled, interrupt;
-    uint16_t address;
     uint8_t prescale;
+    uint8_t count; /* lines counted towards the next fall of the pause */
+    uint16_t address;
     uint16_t pause;
-    uint8_t count;    /* lines counted towards the next fall of the pause */
     uint16_t counter; /* passes that LOOP has left */
     uint16_t mark;    /* where LOOP goes back to */
 } PlusChannel;
@@ -169,7 +193,15 @@ typedef struct {
 } PlusUndo;
 
 typedef struct {
-    PlusUndo undo;
+    bool held; /* a table holds; if not, the rest is 0 */
+    uint8_t channels;
+    uint16_t sprites;
+    uint32_t palette;
+} PlusHeld;
+
+typedef struct {
+    PlusHeld table;
+    PlusUndo song, picture; /* each editor's record */
 } PlusEditing;
 
 typedef struct {
@@ -177,10 +209,10 @@ typedef struct {
     PlusGate gate;
     PlusCrtc crtc;
     PlusVideo video;
+    PlusInterrupts interrupts;
     PlusSprite sprites[16];
     uint8_t palette[64]; /* two bytes an entry, low then high */
     PlusSound sound;
-    PlusInterrupts interrupts;
     PlusEditing editing;
 } PlusChip;
 
@@ -233,7 +265,7 @@ typedef struct {
  * its line number is below that of the record before it. */
 typedef struct {
     uint32_t line; /* line steps from the reset up to the call */
-    uint8_t kind;  /* PLUS_TAKE_WRITE_BC to PLUS_TAKE_UNDO */
+    uint8_t kind;  /* PLUS_TAKE_WRITE_BC to PLUS_TAKE_START */
     uint16_t address;
     uint8_t value;
 } PlusRecord;
@@ -274,7 +306,7 @@ typedef struct {
 /* What the library was built with. No answer number. */
 PlusBuilt plus_built(void);
 
-/* The chip after reset, with nothing to undo. No answer number: nothing can refuse it. */
+/* The chip after reset, with no table and nothing to undo. No answer number: nothing can refuse it. */
 PlusChip plus_reset(void);
 
 /* A byte to port BCxx: selects a 6845 register and feeds the lock. Answers 0. */
@@ -286,17 +318,24 @@ PlusAnswered plus_write_bd(PlusChip chip, uint8_t byte);
 /* A byte to port 7Fxx: maps the page, or sets the mode. Answers 0 or 3. */
 PlusAnswered plus_write_7f(PlusChip chip, uint8_t byte);
 
-/* Reads the register page; `bus` comes back where nothing can be read. Answers 0, 1 or 2. */
-PlusByteRead plus_page_read(PlusChip chip, const uint8_t *store, size_t store_length, uint16_t address, uint8_t bus);
+/* Gives the table of which editor may write what, in the place of any before it. Both editors' records are empty then, and all else
+ * stays. Answers 0. */
+PlusAnswered plus_start(PlusChip chip, PlusTable table);
 
-/* Writes the register page; a pixel goes into the store. A write that is served, but to DCSR, can be undone; of more than
- * PLUS_PLACES the oldest can't be any more. Answers 0, 1, 2, 3 or 9. */
-PlusAnswered plus_page_write(PlusChip chip, uint8_t *store, size_t store_length, uint32_t places[PLUS_PLACES], uint16_t address,
-                             uint8_t byte);
+/* An editor reads the register page; `bus` comes back where nothing can be read. No read is refused for its editor. Answers 0, 1 or
+ * 2. */
+PlusByteRead plus_page_read(PlusChip chip, uint8_t editor, const uint8_t *store, size_t store_length, uint16_t address,
+                            uint8_t bus);
 
-/* Takes back the newest page write that is left: its register, or the pixel in the store, gets the contents it had before. Served
- * whether or not the page is mapped. Answers 0, 1 or 10. */
-PlusAnswered plus_undo(PlusChip chip, uint8_t *store, size_t store_length, const uint32_t places[PLUS_PLACES]);
+/* An editor writes the register page; a pixel goes into the store. A write that is served, but to DCSR, can be undone by that
+ * editor; of more than PLUS_PLACES the oldest can't be any more. The places are the editor's own. Answers 0, 1, 2, 15, 9 or 3,
+ * tested in this order. */
+PlusAnswered plus_page_write(PlusChip chip, uint8_t editor, uint8_t *store, size_t store_length, uint32_t places[PLUS_PLACES],
+                             uint16_t address, uint8_t byte);
+
+/* Takes back the editor's newest page write that is left: its register, or the pixel in the store, gets the contents it had before.
+ * Served whether or not the page is mapped. The places are the editor's own. Answers 0, 1 or 10. */
+PlusAnswered plus_undo(PlusChip chip, uint8_t editor, uint8_t *store, size_t store_length, const uint32_t places[PLUS_PLACES]);
 
 /* Exports the registers of the page: for each of 159, by rising address, its address low, its address high and its contents. The
  * pixels, DCSR and the mirrors of magnification are not among them. Answers 0 or 1. */
@@ -348,10 +387,11 @@ PlusOpened plus_take_open(const uint8_t *file, size_t file_length);
 PlusRecordRead plus_take_record(const uint8_t *file, size_t file_length, size_t number);
 
 /* Plays a take from reset, record by record: lines are stepped, with the processor off the 8255 and nothing drawn, until there are
- * as many as the record's line number says, and its call is made. A call that is refused is counted and passed over. The whole take
- * is tested before anything is played. The places are then those of the chip it gives. Answers 0, 1, 11, 12 or 13. */
-PlusReplayed plus_replay(const uint8_t *ram, size_t ram_length, uint8_t *store, size_t store_length, uint32_t places[PLUS_PLACES],
-                         const uint8_t *file, size_t file_length);
+ * as many as the record's line number says, and its call is made. Every start of the take gives this table. A call that is refused
+ * is counted and passed over. The whole take is tested before anything is played. The places are then those of the chip it gives,
+ * the song editor's and the picture editor's. Answers 0, 1, 11, 12 or 13. */
+PlusReplayed plus_replay(const uint8_t *ram, size_t ram_length, uint8_t *store, size_t store_length, uint32_t song[PLUS_PLACES],
+                         uint32_t picture[PLUS_PLACES], PlusTable table, const uint8_t *file, size_t file_length);
 
 /* In this header alone. */
 
@@ -380,6 +420,7 @@ static inline const char *plus_answer_text(uint8_t number) {
         "the records don't end where the trailer begins",
         "a record is bad",
         "there is no room for the take",
+        "the register is not this editor's",
     };
     return number < sizeof texts / sizeof texts[0] ? texts[number] : "a number that this version doesn't answer";
 }

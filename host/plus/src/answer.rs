@@ -4,7 +4,8 @@ use std::error::Error;
 use std::fmt;
 
 /// What a call answers: that it was served, or why it was refused. Where several
-/// reasons apply it is the one with the lowest number.
+/// reasons apply it is the one with the lowest number; no other applies where
+/// [`NotYours`](Answer::NotYours) does.
 ///
 /// ```
 /// use plus::{Answer, Chip};
@@ -56,11 +57,13 @@ pub enum Answer {
     /// The buffer has no room for the take, or its count or its offset has none in
     /// 4 bytes: writing a take.
     NoRoom = 14,
+    /// The register is not this editor's, by the table that holds: page write.
+    NotYours = 15,
 }
 
 impl Answer {
     /// All of them, each at its number's place.
-    pub const ALL: [Answer; 15] = [
+    pub const ALL: [Answer; 16] = [
         Answer::Done,
         Answer::WrongLength,
         Answer::NotMapped,
@@ -76,6 +79,7 @@ impl Answer {
         Answer::NotMet,
         Answer::BadRecord,
         Answer::NoRoom,
+        Answer::NotYours,
     ];
 
     /// Its number, as the C interface has it.
@@ -134,6 +138,7 @@ impl fmt::Display for Answer {
             Answer::NotMet => "the records don't end where the trailer begins",
             Answer::BadRecord => "a record is bad",
             Answer::NoRoom => "there is no room for the take",
+            Answer::NotYours => "the register is not this editor's",
         })
     }
 }

@@ -1,16 +1,19 @@
 //! A chip, and the calls on it.
 
 use crate::ffi;
-use crate::state::{Aligned, State, Undo};
-use crate::{version, Access, Answer, PLACES};
+use crate::state::{Aligned, Held, State, Undo};
+use crate::{version, Access, Answer, Editor, Table, PLACES};
 use std::ops::{Deref, DerefMut};
 
-/// A chip, and its record of page writes. Its fields are those of [`State`].
+/// A chip, and its two records of page writes. Its fields are those of [`State`].
 #[derive(Clone, Debug)]
 pub struct Chip {
     state: Aligned,
-    places: [u32; PLACES],
+    places: Places,
 }
+
+/// The places of both editors' records, each at its editor's number.
+pub(crate) type Places = [[u32; PLACES]; 2];
 
 /// What a line step tells.
 #[derive(Clone, Copy, Debug, PartialEq, Eq)]
@@ -29,18 +32,18 @@ impl Chip {
     /// The chip after reset.
     pub fn new() -> Chip {
         version::check();
-        Chip::of(unsafe { ffi::plus_reset() }, [0; PLACES])
+        Chip::of(unsafe { ffi::plus_reset() }, [[0; PLACES]; 2])
     }
 
-    /// A state with the places of its record.
-    pub(crate) fn of(state: State, places: [u32; PLACES]) -> Chip {
+    /// A state with the places of its records.
+    pub(crate) fn of(state: State, places: Places) -> Chip {
         Chip {
             state: Aligned(state),
             places,
         }
     }
 
-    /// Resets it, which leaves nothing to undo.
+    /// Resets it, which leaves no table and nothing to undo.
     pub fn reset(&mut self) {
         **self = unsafe { ffi::plus_reset() };
     }
@@ -69,40 +72,79 @@ impl Chip {
         self.answered(unsafe { ffi::plus_write_7f(self.state, byte) })
     }
 
-    /// Reads the register page: the answer, 0, 1 or 2, and the byte, which is
-    /// `bus` where nothing can be read.
+    /// Gives the table of which editor may write what, in the place of any before
+    /// it. It holds until the next start or a reset; both records are empty then.
+    /// Answers 0.
+    pub fn start(&mut self, table: Table) -> Answer {
+        self.answered(unsafe { ffi::plus_start(self.state, table) })
+    }
+
+    /// The table that holds, if one does.
+    pub fn table(&self) -> Option<Table> {
+        let Held {
+            held,
+            channels,
+            sprites,
+            palette,
+        } = self.editing.table;
+        held.then_some(Table {
+            palette,
+            sprites,
+            channels,
+        })
+    }
+
+    /// Reads the register page for an editor: the answer, 0, 1 or 2, and the byte,
+    /// which is `bus` where nothing can be read. While a table holds, the editor
+    /// sees the bits of its own channels in DCSR, and 0 elsewhere.
     #[must_use]
-    pub fn page_read(&self, store: &[u8], address: u16, bus: u8) -> (Answer, u8) {
-        let read =
-            unsafe { ffi::plus_page_read(self.state, store.as_ptr(), store.len(), address, bus) };
+    pub fn page_read(&self, editor: Editor, store: &[u8], address: u16, bus: u8) -> (Answer, u8) {
+        let (store, length) = (store.as_ptr(), store.len());
+        let read = unsafe { ffi::plus_page_read(self.state, editor, store, length, address, bus) };
         (read.answer, read.byte)
     }
 
-    /// Writes the register page; a pixel goes into the store. A write that is
-    /// served, but to DCSR, can be undone. Answers 0, 1, 2, 3 or 9.
+    /// Writes the register page for an editor; a pixel goes into the store. A write
+    /// that is served, but to DCSR, can be undone by its editor. While a table
+    /// holds, a register that is not the editor's is refused with 15, and of DCSR
+    /// only the bits of its own channels do anything. Answers 0, 1, 2, 15, 9 or 3,
+    /// tested in this order.
     #[must_use]
-    pub fn page_write(&mut self, store: &mut [u8], address: u16, byte: u8) -> Answer {
-        let (store, length, places) = (store.as_mut_ptr(), store.len(), &mut self.places);
-        let written =
-            unsafe { ffi::plus_page_write(self.state, store, length, places, address, byte) };
+    pub fn page_write(
+        &mut self,
+        editor: Editor,
+        store: &mut [u8],
+        address: u16,
+        byte: u8,
+    ) -> Answer {
+        let (store, length) = (store.as_mut_ptr(), store.len());
+        let places = &mut self.places[editor as usize];
+        let written = unsafe {
+            ffi::plus_page_write(self.state, editor, store, length, places, address, byte)
+        };
         self.answered(written)
     }
 
-    /// Takes back the newest page write that is left: its register, or the pixel
-    /// in the store, gets the contents it had before. Served whether or not the
-    /// page is mapped and the chip unlocked. Answers 0, 1 or 10.
+    /// Takes back an editor's newest page write that is left: its register, or the
+    /// pixel in the store, gets the contents it had before. Served whether or not
+    /// the page is mapped and the chip unlocked. Answers 0, 1 or 10.
     #[must_use]
-    pub fn undo(&mut self, store: &mut [u8]) -> Answer {
+    pub fn undo(&mut self, editor: Editor, store: &mut [u8]) -> Answer {
         let (store, length) = (store.as_mut_ptr(), store.len());
-        self.answered(unsafe { ffi::plus_undo(self.state, store, length, &self.places) })
+        let places = &self.places[editor as usize];
+        self.answered(unsafe { ffi::plus_undo(self.state, editor, store, length, places) })
     }
 
-    /// The page writes that can be undone, the newest first and at most
+    /// The page writes that an editor can undo, the newest first and at most
     /// [`PLACES`]: the address of each, and its register's contents before.
-    pub fn record(&self) -> impl Iterator<Item = (u16, u8)> + '_ {
-        let Undo { next, count } = self.editing.undo;
+    pub fn record(&self, editor: Editor) -> impl Iterator<Item = (u16, u8)> + '_ {
+        let Undo { next, count } = match editor {
+            Editor::Song => self.editing.song,
+            Editor::Picture => self.editing.picture,
+        };
+        let places = &self.places[editor as usize];
         (1..=count.min(PLACES as u16)).map(move |back| {
-            let entry = self.places[usize::from(next.wrapping_sub(back as u8))];
+            let entry = places[usize::from(next.wrapping_sub(back as u8))];
             ((entry >> 8) as u16, entry as u8)
         })
     }

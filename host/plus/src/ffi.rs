@@ -4,7 +4,7 @@ use crate::listing::{Printed, ReadBack};
 use crate::state::Aligned;
 use crate::take::{Opened, Record, RecordRead, Written, COUNTS};
 use crate::version::Built;
-use crate::{Access, Answer, Length, State, PLACES};
+use crate::{Access, Answer, Editor, Length, State, Table, PLACES};
 
 #[repr(C)]
 pub(crate) struct Answered {
@@ -54,8 +54,10 @@ extern "C" {
     pub(crate) fn plus_write_bc(chip: Aligned, byte: u8) -> Answered;
     pub(crate) fn plus_write_bd(chip: Aligned, byte: u8) -> Answered;
     pub(crate) fn plus_write_7f(chip: Aligned, byte: u8) -> Answered;
+    pub(crate) fn plus_start(chip: Aligned, table: Table) -> Answered;
     pub(crate) fn plus_page_read(
         chip: Aligned,
+        editor: Editor,
         store: *const u8,
         store_length: usize,
         address: u16,
@@ -63,6 +65,7 @@ extern "C" {
     ) -> ByteRead;
     pub(crate) fn plus_page_write(
         chip: Aligned,
+        editor: Editor,
         store: *mut u8,
         store_length: usize,
         places: &mut [u32; PLACES],
@@ -71,6 +74,7 @@ extern "C" {
     ) -> Answered;
     pub(crate) fn plus_undo(
         chip: Aligned,
+        editor: Editor,
         store: *mut u8,
         store_length: usize,
         places: &[u32; PLACES],
@@ -125,7 +129,9 @@ extern "C" {
         ram_length: usize,
         store: *mut u8,
         store_length: usize,
-        places: &mut [u32; PLACES],
+        song: &mut [u32; PLACES],
+        picture: &mut [u32; PLACES],
+        table: Table,
         file: *const u8,
         file_length: usize,
     ) -> Replayed;

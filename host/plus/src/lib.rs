@@ -2,7 +2,7 @@
 //! `libplus.a`, whose C interface is `include/plus.h`. The library is for x86-64
 //! Linux.
 //!
-//! A [`Chip`] is the whole state of one chip, held by value, with the record of
+//! A [`Chip`] is the whole state of one chip, held by value, with the records of
 //! page writes that can be undone; the library keeps nothing between calls. A
 //! host lends each call the buffers it needs: RAM of [`RAM`] bytes, the sprite
 //! pixel store of [`STORE`] bytes, a line of [`LINE`] bytes to draw into, and
@@ -11,6 +11,12 @@
 //! and all else in the answer is 0, but for the number of a bad line or a bad
 //! record.
 //!
+//! Two editors work on one chip, a song editor and a picture editor. Page reads,
+//! page writes and undos name the [`Editor`] that makes them, and each has a record
+//! of its own. A [`Table`], which the host gives by [`Chip::start`], says which of
+//! them may write what; while none is given both may write everything, and a host
+//! with one editor can name either, always the same.
+//!
 //! [`listing`] prints a sound list as text and reads such a text back. [`take`]
 //! writes, opens and plays takes, and has a [`Recorder`](take::Recorder) that makes
 //! one of the calls on a chip.
@@ -18,7 +24,7 @@
 //! A sound list forecast, then played on channel 0 up to its STOP:
 //!
 //! ```
-//! use plus::{forecast, Access, Answer, Chip, RAM, STORE, UNLOCK};
+//! use plus::{forecast, Access, Answer, Chip, Editor, RAM, STORE, UNLOCK};
 //!
 //! // LOAD 7 38h, PAUSE 2, STOP
 //! let (mut ram, mut store) = (vec![0; RAM], vec![0; STORE]);
@@ -33,14 +39,16 @@
 //! }
 //! chip.write_7f(0xB8).served()?; // maps the register page in
 //! for (address, byte) in [(0x6C00, 0x00), (0x6C01, 0x80), (0x6C02, 0), (0x6C0F, 1)] {
-//!     chip.page_write(&mut store, address, byte).served()?;
+//!     chip.page_write(Editor::Song, &mut store, address, byte).served()?;
 //! }
-//! assert_eq!(chip.page_read(&store, 0x6C0F, 0), (Answer::Done, 1)); // DCSR: enabled
+//! let dcsr = chip.page_read(Editor::Song, &store, 0x6C0F, 0);
+//! assert_eq!(dcsr, (Answer::Done, 1)); // enabled
 //! for _ in 0..told.lines {
 //!     let (answer, _report) = chip.step(&ram, [Access::Off; 3]);
 //!     answer.served()?;
 //! }
-//! assert_eq!(chip.page_read(&store, 0x6C0F, 0), (Answer::Done, 0)); // and off again
+//! let dcsr = chip.page_read(Editor::Song, &store, 0x6C0F, 0);
+//! assert_eq!(dcsr, (Answer::Done, 0)); // and off again
 //! # Ok::<(), Answer>(())
 //! ```
 //!
@@ -65,7 +73,7 @@
 //! channel 2, and 6C0Ah is its prescale:
 //!
 //! ```
-//! use plus::{Answer, Chip, EXPORT, STORE, UNLOCK};
+//! use plus::{Answer, Chip, Editor, EXPORT, STORE, UNLOCK};
 //!
 //! let (mut chip, mut store) = (Chip::new(), vec![0; STORE]);
 //! for byte in UNLOCK {
@@ -73,23 +81,56 @@
 //! }
 //! chip.write_7f(0xB8).served()?;
 //! for prescale in [3, 5] {
-//!     chip.page_write(&mut store, 0x6C0A, prescale).served()?;
+//!     chip.page_write(Editor::Song, &mut store, 0x6C0A, prescale).served()?;
 //! }
-//! assert!(chip.record().eq([(0x6C0A, 3), (0x6C0A, 0)])); // what each took the place of
-//! chip.undo(&mut store).served()?;
+//! // what each took the place of
+//! assert!(chip.record(Editor::Song).eq([(0x6C0A, 3), (0x6C0A, 0)]));
+//! chip.undo(Editor::Song, &mut store).served()?;
 //! let mut out = [0; EXPORT];
 //! chip.export(&mut out).served()?;
 //! assert!(out.ends_with(&[0x0A, 0x6C, 3]));
 //! # Ok::<(), Answer>(())
 //! ```
 //!
+//! The song editor beside the picture editor. All palette entries and sprites are
+//! the picture editor's here, and the channels the song editor's; the screen
+//! registers from 6800h to 6804h are always the picture editor's while a table
+//! holds, and IVR is nobody's:
+//!
+//! ```
+//! use plus::{Answer, Chip, Editor, Table, STORE, UNLOCK};
+//!
+//! let (mut chip, mut store) = (Chip::new(), vec![0; STORE]);
+//! for byte in UNLOCK {
+//!     chip.write_bc(byte);
+//! }
+//! chip.write_7f(0xB8).served()?;
+//! let table = Table { palette: u32::MAX, sprites: 0xFFFF, channels: 0 };
+//! chip.start(table);
+//! assert_eq!(chip.table(), Some(table));
+//!
+//! chip.page_write(Editor::Picture, &mut store, 0x6400, 0x70).served()?;
+//! assert_eq!(chip.page_write(Editor::Song, &mut store, 0x6400, 0), Answer::NotYours);
+//! chip.page_write(Editor::Song, &mut store, 0x6C02, 5).served()?;
+//!
+//! // Each undoes its own writes, and sees its own channels in DCSR.
+//! chip.undo(Editor::Song, &mut store).served()?;
+//! assert_eq!(chip.undo(Editor::Song, &mut store), Answer::NothingToUndo);
+//! assert_eq!(chip.record(Editor::Picture).count(), 1);
+//! chip.page_write(Editor::Song, &mut store, 0x6C0F, 0b001).served()?; // channel 0 on
+//! let seen = Editor::BOTH.map(|editor| chip.page_read(editor, &store, 0x6C0F, 0).1);
+//! assert_eq!(seen, [0b001, 0]);
+//! # Ok::<(), Answer>(())
+//! ```
+//!
 //! A slider sends an event for every step of a gesture, and each write is kept by
 //! itself: a long gesture would fill the record, and take as many undos to take
 //! back. To keep one entry a gesture, take back the last event's write before each
-//! further one. Between two events no other page write may be made, since undo would
-//! take back that one; and DCSR is not kept, so it needs none of this.
+//! further one. Between two events that editor may make no other page write, since
+//! undo would take back that one; and DCSR is not kept, so it needs none of this.
 //!
 //! ```
+//! use plus::Editor::Picture;
 //! use plus::{Answer, Chip, STORE, UNLOCK};
 //!
 //! let (mut chip, mut store) = (Chip::new(), vec![0; STORE]);
@@ -97,15 +138,15 @@
 //!     chip.write_bc(byte);
 //! }
 //! chip.write_7f(0xB8).served()?;
-//! chip.page_write(&mut store, 0x6400, 0x70).served()?;
+//! chip.page_write(Picture, &mut store, 0x6400, 0x70).served()?;
 //! for event in 0..300 {
 //!     if event > 0 {
-//!         chip.undo(&mut store).served()?;
+//!         chip.undo(Picture, &mut store).served()?;
 //!     }
-//!     chip.page_write(&mut store, 0x6400, event as u8).served()?;
+//!     chip.page_write(Picture, &mut store, 0x6400, event as u8).served()?;
 //! }
-//! assert!(chip.record().eq([(0x6400, 0x70), (0x6400, 0)])); // the gesture is one
-//! chip.undo(&mut store).served()?;
+//! assert!(chip.record(Picture).eq([(0x6400, 0x70), (0x6400, 0)])); // the gesture is one
+//! chip.undo(Picture, &mut store).served()?;
 //! assert_eq!(chip.palette[0], 0x70);
 //! # Ok::<(), Answer>(())
 //! ```
@@ -117,6 +158,7 @@
 mod access;
 mod answer;
 mod chip;
+mod editor;
 mod ffi;
 mod forecast;
 pub mod kind;
@@ -129,11 +171,12 @@ mod version;
 pub use access::Access;
 pub use answer::Answer;
 pub use chip::{Chip, Report};
+pub use editor::{Editor, Table, TABLE};
 pub use forecast::{forecast, Length};
 pub use palette::grey;
 pub use state::{
-    Channel, Counters, Crtc, Editing, Gate, Interrupts, Lock, Registers, Sound, Sprite, State,
-    Undo, Video,
+    Channel, Counters, Crtc, Editing, Gate, Held, Interrupts, Lock, Registers, Sound, Sprite,
+    State, Undo, Video,
 };
 pub use version::{built, Built, VERSION};
 
@@ -149,7 +192,7 @@ pub const LINE: usize = 640;
 /// How many bytes an export has: three for each of 159 registers.
 pub const EXPORT: usize = 477;
 
-/// How many page writes can be undone.
+/// How many page writes an editor can undo.
 pub const PLACES: usize = 256;
 
 /// Bytes that unlock a chip, written to BCxx one after the other. Any byte but

@@ -53,10 +53,10 @@ pub struct Counters {
     pub rc: u8,
     /// Whether this is an adjust line.
     pub adjust: bool,
-    /// The current line's screen address, 14 bits.
-    pub address: u16,
     /// Whether a captured split address waits.
     pub held: bool,
+    /// The current line's screen address, 14 bits.
+    pub address: u16,
     /// The split address that waits, 0 where none does.
     pub split: u16,
 }
@@ -110,14 +110,14 @@ pub struct Channel {
     pub enabled: bool,
     /// Whether its interrupt waits.
     pub interrupt: bool,
-    /// Where its next word is. This is the start address register too.
-    pub address: u16,
     /// How many lines more than one a pause takes to fall by 1.
     pub prescale: u8,
-    /// What is left of the pause.
-    pub pause: u16,
     /// Lines counted towards the pause's next fall.
     pub count: u8,
+    /// Where its next word is. This is the start address register too.
+    pub address: u16,
+    /// What is left of the pause.
+    pub pause: u16,
     /// Passes that LOOP has left.
     pub counter: u16,
     /// Where LOOP goes back to.
@@ -147,7 +147,8 @@ pub struct Interrupts {
     pub ivr: u8,
 }
 
-/// Where the record of page writes that can be undone stands among its places.
+/// Where an editor's record of page writes that can be undone stands among its
+/// places.
 #[repr(C)]
 #[derive(Clone, Copy, Debug, Default, PartialEq, Eq)]
 pub struct Undo {
@@ -157,12 +158,30 @@ pub struct Undo {
     pub count: u16,
 }
 
+/// The table of the two editors, as the chip holds it.
+#[repr(C)]
+#[derive(Clone, Copy, Debug, Default, PartialEq, Eq)]
+pub struct Held {
+    /// Whether one holds. If not, the rest is 0.
+    pub held: bool,
+    /// Bit n is channel n, and set for the picture editor; 3 bits.
+    pub channels: u8,
+    /// The same of the sprites.
+    pub sprites: u16,
+    /// The same of the palette entries.
+    pub palette: u32,
+}
+
 /// What is kept for those who edit.
 #[repr(C)]
 #[derive(Clone, Copy, Debug, Default, PartialEq, Eq)]
 pub struct Editing {
-    /// The record of page writes.
-    pub undo: Undo,
+    /// Who may write what.
+    pub table: Held,
+    /// The song editor's record of page writes.
+    pub song: Undo,
+    /// The picture editor's.
+    pub picture: Undo,
 }
 
 /// The whole state.
@@ -177,15 +196,16 @@ pub struct State {
     pub crtc: Crtc,
     /// Raster interrupt, split and soft scroll.
     pub video: Video,
+    /// Interrupts.
+    pub interrupts: Interrupts,
     /// Sprites 0 to 15.
     pub sprites: [Sprite; 16],
     /// Two bytes an entry: red and blue, then green.
     pub palette: [u8; 64],
     /// Channels and PSG.
     pub sound: Sound,
-    /// Interrupts.
-    pub interrupts: Interrupts,
-    /// The record of page writes, but for its places.
+    /// The table of the editors, and their records of page writes but for the
+    /// places.
     pub editing: Editing,
 }
 

@@ -3,7 +3,9 @@
 //! A file is a comment of any bytes, the records, and a trailer. A [`Record`] is
 //! one call with its line number, that is how many line steps were made from the
 //! reset up to it. A [`Recorder`] makes the records; [`file_of`] writes them,
-//! [`Take::open`] opens such a file, and [`replay()`] plays it.
+//! [`Take::open`] opens such a file, and [`replay()`] plays it. A start is noted
+//! without its [`Table`](crate::Table): all starts of a take give one, which a host
+//! keeps beside the file.
 //!
 //! ```
 //! use plus::take::{file_of, kind, Record, Refused, Take};
@@ -32,7 +34,7 @@ pub mod kind;
 mod recorder;
 mod replay;
 
-pub use recorder::{Noted, Recorder, TooLate};
+pub use recorder::{NoRecords, Noted, Recorder};
 pub use replay::{replay, Replayed, COUNTS};
 
 use crate::{ffi, version, Answer};

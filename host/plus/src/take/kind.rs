@@ -9,11 +9,21 @@ pub const WRITE_BD: u8 = 2;
 /// A byte to port 7Fxx.
 pub const WRITE_7F: u8 = 3;
 
-/// A page write, the only kind with an address.
+/// A page write of the song editor. It has an address, as has that of the picture
+/// editor, and no other kind.
 pub const PAGE_WRITE: u8 = 4;
 
 /// An acknowledge, which has no value.
 pub const ACKNOWLEDGE: u8 = 5;
 
-/// An undo, which has no value.
+/// An undo of the song editor, which has no value.
 pub const UNDO: u8 = 6;
+
+/// A page write of the picture editor.
+pub const PICTURE_WRITE: u8 = 7;
+
+/// An undo of the picture editor, which has no value.
+pub const PICTURE_UNDO: u8 = 8;
+
+/// A start, which has no value: the table is no part of a take.
+pub const START: u8 = 9;

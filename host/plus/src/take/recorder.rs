@@ -1,7 +1,7 @@
 //! A chip that notes the calls made on it.
 
 use super::{kind, Record};
-use crate::{Access, Answer, Chip, Report};
+use crate::{Access, Answer, Chip, Editor, Report, Table};
 use std::error::Error;
 use std::fmt;
 use std::ops::Deref;
@@ -9,23 +9,26 @@ use std::ops::Deref;
 /// Which of the served calls a recorder notes.
 #[derive(Clone, Copy, Debug, PartialEq, Eq)]
 pub enum Noted {
-    /// Those that changed the chip, the pixel store or the record of page writes.
+    /// Those that changed the chip, the pixel store or a record of page writes.
     Changes,
     /// All, also those that left everything as it was.
     Served,
 }
 
 /// A chip that notes the calls made on it as the records of a take, and counts its
-/// line steps. Only writes to the ports and to the page, acknowledges and undos
-/// are ever noted, and refused ones never. Made on a chip after reset, each after
-/// as many line steps as its record says, and with the same RAM and store at the
-/// start, the calls noted lead to the same state.
+/// line steps. Only writes to the ports and to the page, acknowledges, undos and
+/// starts are ever noted, and refused ones never. Made on a chip after reset, each
+/// after as many line steps as its record says, and with the same RAM, store and
+/// table, the calls noted lead to the same state.
+///
+/// A take says nothing of a start's table, so that all of them have to give one:
+/// [`given_table`](Recorder::given_table) hands it out beside the records.
 ///
 /// It is read like the [`Chip`] in it, and has the chip's calls.
 ///
 /// ```
 /// use plus::take::{kind, Noted, Recorder};
-/// use plus::{Access, Answer, RAM, STORE, UNLOCK};
+/// use plus::{Access, Answer, Editor, Table, RAM, STORE, UNLOCK};
 ///
 /// let (ram, mut store) = (vec![0; RAM], vec![0; STORE]);
 /// let mut chip = Recorder::new(Noted::Changes);
@@ -38,16 +41,20 @@ pub enum Noted {
 ///     answer.served()?;
 /// }
 /// chip.write_7f(0xB8).served()?; // is mapped in already
-/// chip.page_write(&mut store, 0x6800, 100).served()?;
-/// assert_eq!(chip.page_write(&mut store, 0x7000, 100), Answer::NothingThere);
+/// let table = Table { palette: u32::MAX, sprites: 0xFFFF, channels: 0 };
+/// chip.start(table); // the channels are the song editor's, and nothing else is
+/// assert_eq!(chip.page_write(Editor::Song, &mut store, 0x6800, 100), Answer::NotYours);
+/// chip.page_write(Editor::Picture, &mut store, 0x6800, 100).served()?;
 /// assert_eq!(chip.video.pri, 100);
 ///
 /// let records = chip.records()?;
-/// assert_eq!(records.len(), 17 + 1 + 1);
-/// let [.., mapped, written] = records else { unreachable!() };
+/// assert_eq!(records.len(), 17 + 1 + 1 + 1);
+/// let [.., mapped, started, written] = records else { unreachable!() };
 /// assert_eq!((mapped.line, mapped.kind, mapped.value), (0, kind::WRITE_7F, 0xB8));
-/// assert_eq!((written.line, written.kind), (2, kind::PAGE_WRITE));
+/// assert_eq!((started.line, started.kind), (2, kind::START));
+/// assert_eq!((written.line, written.kind), (2, kind::PICTURE_WRITE));
 /// assert_eq!((written.address, written.value), (0x6800, 100));
+/// assert_eq!(chip.given_table(), table);
 /// # Ok::<(), Box<dyn std::error::Error>>(())
 /// ```
 #[derive(Clone, Debug)]
@@ -56,7 +63,9 @@ pub struct Recorder {
     noted: Noted,
     /// Line steps since reset, as long as a record can say them.
     line: Option<u32>,
-    records: Result<Vec<Record>, TooLate>,
+    /// The table that the first start since reset gave.
+    given: Option<Table>,
+    records: Result<Vec<Record>, NoRecords>,
 }
 
 impl Recorder {
@@ -66,23 +75,31 @@ impl Recorder {
             chip: Chip::new(),
             noted,
             line: Some(0),
+            given: None,
             records: Ok(Vec::new()),
         }
     }
 
     /// The calls noted since reset. There are none to be had after one that came
-    /// too late.
-    pub fn records(&self) -> Result<&[Record], TooLate> {
+    /// too late, nor after starts with two tables.
+    pub fn records(&self) -> Result<&[Record], NoRecords> {
         match &self.records {
             Ok(records) => Ok(records),
-            Err(late) => Err(*late),
+            Err(why) => Err(*why),
         }
+    }
+
+    /// The table that the starts since reset gave, which [`replay()`](super::replay())
+    /// wants beside the take; all 0 if there was none.
+    pub fn given_table(&self) -> Table {
+        self.given.unwrap_or_default()
     }
 
     /// Resets the chip, and starts anew: a take begins with a reset.
     pub fn reset(&mut self) {
         self.chip.reset();
         self.line = Some(0);
+        self.given = None;
         self.records = Ok(Vec::new());
     }
 
@@ -103,11 +120,31 @@ impl Recorder {
         self.note(kind::WRITE_7F, 0, byte, |chip| chip.write_7f(byte))
     }
 
+    /// [`Chip::start`], noted. After one with other owners than the first one's
+    /// there are no records any more.
+    pub fn start(&mut self, table: Table) -> Answer {
+        let first = *self.given.get_or_insert(table);
+        if table.kept() != first.kept() && self.records.is_ok() {
+            self.records = Err(NoRecords::TwoTables);
+        }
+        self.note(kind::START, 0, 0, |chip| chip.start(table))
+    }
+
     /// [`Chip::page_write`], noted.
     #[must_use]
-    pub fn page_write(&mut self, store: &mut [u8], address: u16, byte: u8) -> Answer {
-        self.note(kind::PAGE_WRITE, address, byte, |chip| {
-            chip.page_write(store, address, byte)
+    pub fn page_write(
+        &mut self,
+        editor: Editor,
+        store: &mut [u8],
+        address: u16,
+        byte: u8,
+    ) -> Answer {
+        let kind = match editor {
+            Editor::Song => kind::PAGE_WRITE,
+            Editor::Picture => kind::PICTURE_WRITE,
+        };
+        self.note(kind, address, byte, |chip| {
+            chip.page_write(editor, store, address, byte)
         })
     }
 
@@ -125,8 +162,12 @@ impl Recorder {
 
     /// [`Chip::undo`], noted.
     #[must_use]
-    pub fn undo(&mut self, store: &mut [u8]) -> Answer {
-        self.note(kind::UNDO, 0, 0, |chip| chip.undo(store))
+    pub fn undo(&mut self, editor: Editor, store: &mut [u8]) -> Answer {
+        let kind = match editor {
+            Editor::Song => kind::UNDO,
+            Editor::Picture => kind::PICTURE_UNDO,
+        };
+        self.note(kind, 0, 0, |chip| chip.undo(editor, store))
     }
 
     /// [`Chip::step`], counted if it is served.
@@ -141,8 +182,8 @@ impl Recorder {
 
     /// [`Chip::page_read`], which changes nothing.
     #[must_use]
-    pub fn page_read(&self, store: &[u8], address: u16, bus: u8) -> (Answer, u8) {
-        self.chip.page_read(store, address, bus)
+    pub fn page_read(&self, editor: Editor, store: &[u8], address: u16, bus: u8) -> (Answer, u8) {
+        self.chip.page_read(editor, store, address, bus)
     }
 
     /// Makes a call, and notes it if it is one to note.
@@ -155,8 +196,9 @@ impl Recorder {
     ) -> Answer {
         let before = *self.chip;
         let answer = call(&mut self.chip);
-        // A write that is kept and an undo move the place of the record, so that the
-        // store and the record never change without the state.
+        // A write that is kept and an undo move the place of a record, and a start
+        // that empties one its count, so that the store and the records never change
+        // without the state.
         let changed = *self.chip != before;
         if answer == Answer::Done && (changed || self.noted == Noted::Served) {
             self.push(kind, address, value);
@@ -165,17 +207,17 @@ impl Recorder {
     }
 
     fn push(&mut self, kind: u8, address: u16, value: u8) {
-        let Some(line) = self.line else {
-            self.records = Err(TooLate);
+        let Ok(records) = &mut self.records else {
             return;
         };
-        if let Ok(records) = &mut self.records {
-            records.push(Record {
+        match self.line {
+            None => self.records = Err(NoRecords::TooLate),
+            Some(line) => records.push(Record {
                 line,
                 kind,
                 address,
                 value,
-            });
+            }),
         }
     }
 }
@@ -188,14 +230,24 @@ impl Deref for Recorder {
     }
 }
 
-/// A call came after line 4,294,967,295, which is the last that a record can say.
+/// Why a recorder has no records.
 #[derive(Clone, Copy, Debug, PartialEq, Eq)]
-pub struct TooLate;
+#[non_exhaustive]
+pub enum NoRecords {
+    /// A call came after line 4,294,967,295, which is the last that a record can
+    /// say.
+    TooLate,
+    /// The starts gave two tables, and a take has one.
+    TwoTables,
+}
 
-impl fmt::Display for TooLate {
+impl fmt::Display for NoRecords {
     fn fmt(&self, f: &mut fmt::Formatter) -> fmt::Result {
-        write!(f, "a call came after line {}", u32::MAX)
+        match self {
+            NoRecords::TooLate => write!(f, "a call came after line {}", u32::MAX),
+            NoRecords::TwoTables => f.write_str("the starts give two tables"),
+        }
     }
 }
 
-impl Error for TooLate {}
+impl Error for NoRecords {}

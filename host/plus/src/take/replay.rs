@@ -1,7 +1,7 @@
 //! A take played from reset.
 
 use super::Refused;
-use crate::{ffi, version, Answer, Chip, PLACES};
+use crate::{ffi, version, Answer, Chip, Table, PLACES};
 
 /// How many counts a replay keeps: one for each answer number up to 23.
 pub const COUNTS: usize = 24;
@@ -13,7 +13,7 @@ pub struct Replayed {
     pub answer: Answer,
     /// With 13 the number of the first bad record, from 1.
     pub bad: usize,
-    /// The chip after the last record, with its record of page writes; after a
+    /// The chip after the last record, with its records of page writes; after a
     /// refusal the one after reset.
     pub chip: Chip,
     /// Lines stepped, that is the last record's line number.
@@ -27,11 +27,12 @@ pub struct Replayed {
 /// many as the record's line number says, and its call is made. The steps have the
 /// processor off the 8255, and draw nothing. A call that is refused is counted and
 /// passed over. The whole take is tested before anything is played; pixels go into
-/// the store.
+/// the store. Every start of the take gives `table`, which says nothing where the
+/// take has none.
 ///
 /// ```
 /// use plus::take::{file_of, kind, replay, Record, Refused};
-/// use plus::{Answer, RAM, STORE};
+/// use plus::{Answer, Table, RAM, STORE};
 ///
 /// let record = |line, kind, address, value| Record { line, kind, address, value };
 /// let records = [
@@ -42,20 +43,21 @@ pub struct Replayed {
 /// ];
 /// let (ram, mut store) = (vec![0; RAM], vec![0; STORE]);
 /// let file = file_of(b"", &records)?;
-/// let played = replay(&ram, &mut store, &file).served()?;
+/// let played = replay(&ram, &mut store, Table::default(), &file).served()?;
 /// assert_eq!(played.lines, 5);
 /// assert_eq!((played.chip.crtc.counters.rc, played.chip.gate.mode), (5, 2));
 /// assert_eq!(played.counts[Answer::NotMapped as usize], 1);
 /// assert_eq!(played.counts.iter().sum::<u32>(), 1);
 ///
-/// let refused = replay(&ram, &mut store, b"no take").served().unwrap_err();
+/// let refused = replay(&ram, &mut store, Table::default(), b"no take").served().unwrap_err();
 /// assert_eq!(refused, Refused { answer: Answer::NoTrailer, record: 0 });
 /// # Ok::<(), Refused>(())
 /// ```
 #[must_use]
-pub fn replay(ram: &[u8], store: &mut [u8], file: &[u8]) -> Replayed {
+pub fn replay(ram: &[u8], store: &mut [u8], table: Table, file: &[u8]) -> Replayed {
     version::check();
-    let mut places = [0; PLACES];
+    let mut places = [[0; PLACES]; 2];
+    let [song, picture] = &mut places;
     // SAFETY: the library reads and writes only within the slices it is lent.
     let ffi::Replayed {
         answer,
@@ -69,7 +71,9 @@ pub fn replay(ram: &[u8], store: &mut [u8], file: &[u8]) -> Replayed {
             ram.len(),
             store.as_mut_ptr(),
             store.len(),
-            &mut places,
+            song,
+            picture,
+            table,
             file.as_ptr(),
             file.len(),
         )
