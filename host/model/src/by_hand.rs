@@ -2,23 +2,26 @@
 
 use crate::machine::{Machine, Replay};
 use plus::take::{kind, Record, COUNTS};
-use plus::{Access, Answer};
+use plus::{Access, Answer, Editor, Table};
 
 /// A machine from reset, the buffers that it is lent, and what a replay counts.
 pub struct ByHand<'a, M> {
     pub chip: M,
     pub ram: &'a [u8],
     pub store: &'a mut [u8],
+    /// What every start gives.
+    pub table: Table,
     pub lines: u32,
     pub counts: [u32; COUNTS],
 }
 
 impl<'a, M: Machine> ByHand<'a, M> {
-    pub fn new(ram: &'a [u8], store: &'a mut [u8]) -> ByHand<'a, M> {
+    pub fn new(ram: &'a [u8], store: &'a mut [u8], table: Table) -> ByHand<'a, M> {
         ByHand {
             chip: M::new(),
             ram,
             store,
+            table,
             lines: 0,
             counts: [0; COUNTS],
         }
@@ -36,13 +39,17 @@ impl<'a, M: Machine> ByHand<'a, M> {
     /// Makes a record's call: its answer.
     pub fn call(&mut self, record: Record) -> Answer {
         let Record { address, value, .. } = record;
+        let (chip, store) = (&mut self.chip, &mut *self.store);
         match record.kind {
-            kind::WRITE_BC => self.chip.write_bc(value),
-            kind::WRITE_BD => self.chip.write_bd(value),
-            kind::WRITE_7F => self.chip.write_7f(value),
-            kind::PAGE_WRITE => self.chip.page_write(self.store, address, value),
-            kind::ACKNOWLEDGE => self.chip.acknowledge().0,
-            kind::UNDO => self.chip.undo(self.store),
+            kind::WRITE_BC => chip.write_bc(value),
+            kind::WRITE_BD => chip.write_bd(value),
+            kind::WRITE_7F => chip.write_7f(value),
+            kind::PAGE_WRITE => chip.page_write(Editor::Song, store, address, value),
+            kind::ACKNOWLEDGE => chip.acknowledge().0,
+            kind::UNDO => chip.undo(Editor::Song, store),
+            kind::PICTURE_WRITE => chip.page_write(Editor::Picture, store, address, value),
+            kind::PICTURE_UNDO => chip.undo(Editor::Picture, store),
+            kind::START => chip.start(self.table),
             other => panic!("kind {other}"),
         }
     }

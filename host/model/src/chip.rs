@@ -3,6 +3,7 @@
 //! The state and its reset are here; each group of calls has its own file.
 
 mod draw;
+mod editors;
 mod forecast;
 mod interrupts;
 mod line;
@@ -41,6 +42,7 @@ pub mod answer {
     pub const NOT_MET: u8 = 12;
     pub const BAD_RECORD: u8 = 13;
     pub const NO_ROOM: u8 = 14;
+    pub const NOT_YOURS: u8 = 15;
 }
 
 /// Lengths of the lent buffers.
@@ -49,8 +51,8 @@ pub const STORE: usize = 4_096;
 pub const LINE: usize = 640;
 pub const EXPORT: usize = 477;
 
-/// How many page writes can be undone.
-pub const KEPT: usize = 256;
+/// How many page writes an editor can undo.
+pub const PLACES: usize = 256;
 
 /// The lock. `stage` only shows what the history of bytes says.
 #[derive(Clone, Copy, Debug, Default, PartialEq, Eq)]
@@ -139,6 +141,33 @@ pub struct Interrupts {
     pub ivr: u8,
 }
 
+/// The two that work on one chip.
+#[derive(Clone, Copy, Debug, PartialEq, Eq)]
+pub enum Editor {
+    Song,
+    Picture,
+}
+
+/// Which of them may write each palette entry, sprite and channel: bit n is that of
+/// number n, and set for the picture editor.
+#[derive(Clone, Copy, Debug, Default, PartialEq, Eq)]
+pub struct Table {
+    pub palette: u32,
+    pub sprites: u16,
+    pub channels: u8,
+}
+
+/// Page writes that can be undone, the newest last: addresses, and what their
+/// registers held before.
+pub type Kept = Vec<(u16, u8)>;
+
+/// Each editor's.
+#[derive(Clone, Debug, Default, PartialEq, Eq)]
+pub struct Undo {
+    pub song: Kept,
+    pub picture: Kept,
+}
+
 /// The kinds of sound words.
 #[derive(Clone, Copy, Debug, PartialEq, Eq)]
 pub enum Kind {
@@ -181,9 +210,9 @@ pub struct Model {
     pub palette: [u8; 64],
     pub sound: Sound,
     pub interrupts: Interrupts,
-    /// The page writes that can be undone, the newest last: addresses, and what
-    /// their registers held before.
-    pub record: Vec<(u16, u8)>,
+    /// The table, while one holds.
+    pub table: Option<Table>,
+    pub undo: Undo,
     /// The last bytes written to BCxx; what decides the lock.
     history: History,
 }
@@ -203,7 +232,8 @@ impl Model {
                 ivr: 0x01,
                 ..Interrupts::default()
             },
-            record: Vec::new(),
+            table: None,
+            undo: Undo::default(),
             history: History::new(),
         }
     }

@@ -1,5 +1,5 @@
 //! The comparison: one script run on the proved core and on another machine,
-//! with every answer, the whole state, the record of page writes and every buffer
+//! with every answer, the whole state, the records of page writes and every buffer
 //! compared after each call.
 
 mod call;
@@ -14,7 +14,7 @@ pub use call::{Buffers, Call, Reply};
 pub use script::Script;
 
 use crate::machine::Machine;
-use plus::{kind, Chip, Undo, PLACES};
+use plus::{kind, Chip, Editing, Undo, PLACES};
 use std::fmt;
 
 /// How often each call gave each answer number; `Call::NAMES` names the rows.
@@ -22,8 +22,10 @@ use std::fmt;
 pub struct Tally {
     pub scripts: u64,
     pub calls: u64,
-    pub answers: [[u64; 11]; Call::NAMES.len()],
-    /// How often the record became full, and how often it dropped a write then.
+    pub answers: [[u64; 16]; Call::NAMES.len()],
+    /// How many calls were made while a table held.
+    pub held: u64,
+    /// How often a record became full, and how often it dropped a write then.
     pub filled: u64,
     pub dropped: u64,
     /// How many LOADs met the processor off the 8255, on it, and writing a PSG
@@ -44,7 +46,14 @@ impl Tally {
         }
     }
 
-    /// Where the record stood before a call, and where after it.
+    /// What was kept for the editors before a call, and what after it.
+    fn add_editing(&mut self, before: Editing, after: Editing) {
+        self.held += u64::from(before.table.held);
+        self.add_record(before.song, after.song);
+        self.add_record(before.picture, after.picture);
+    }
+
+    /// Where a record stood before a call, and where after it.
     fn add_record(&mut self, before: Undo, after: Undo) {
         let full = |undo: Undo| usize::from(undo.count) == PLACES;
         if before.next == after.next || !full(after) {
@@ -91,11 +100,11 @@ fn run<M: Machine>(script: &Script, calls: &[Call], tally: &mut Tally) -> Option
         other.put(start);
     }
     for (n, &call) in calls.iter().enumerate() {
-        let before = core.editing.undo;
+        let before = core.editing;
         let reply = call.make(&mut core, &mut core_lent);
         let expected = call.make(&mut other, &mut other_lent);
         tally.add(call, reply);
-        tally.add_record(before, core.editing.undo);
+        tally.add_editing(before, core.editing);
         if reply != expected {
             let how = format!("core answers {reply:02X?}, not {expected:02X?}");
             return Some((n, how));
@@ -167,10 +176,11 @@ impl fmt::Display for Tally {
             }
             writeln!(f)?;
         }
-        let (filled, dropped) = (self.filled, self.dropped);
+        let (held, filled, dropped) = (self.held, self.filled, self.dropped);
+        writeln!(f, "a table held at {held} calls")?;
         writeln!(
             f,
-            "the record was filled {filled} times and dropped {dropped} writes"
+            "a record was filled {filled} times and dropped {dropped} writes"
         )?;
         let [off, on, psg_write] = self.loads;
         writeln!(

@@ -2,6 +2,7 @@
 //! readings that document 01 has seen go astray are among them.
 
 mod drawing;
+mod editors;
 mod export;
 mod interrupts;
 mod line;
@@ -15,6 +16,13 @@ mod take;
 mod undo;
 
 pub use drawing::{HighestSpriteFirst, ModeThreeDrawn, ScrollOf3Bits};
+pub use editors::{
+    Bit7Shown, ChannelsBy8Bits, ConverterOfNobody, DcsrOfOwners, FirstTableStays,
+    HighByteOfNextEntry, IvrOfBoth, NotYoursAsNothing, NotYoursServed, NotYoursUnmapped,
+    NothingOfNobody, OneRecord, OthersChannelsShown, OthersEnabled, OthersInterruptCleared,
+    OthersNotRead, PictureRecordThroughStart, PixelOfNextSprite, RecordsThroughStart, ScreenOfSong,
+    TableThroughReset, UndoOfOther,
+};
 pub use export::{
     ExportedThoughRefused, HighAddressFirst, MagnificationAtMirror, NoPrescales, StartOneWordBack,
     XHighAsRead,
@@ -39,7 +47,8 @@ pub use processor::{
 };
 pub use replay::{
     CountedTogether, FirstRecordSkipped, LinesAfterTheCall, NoLinesInModeThree, NotFromReset,
-    OneLineMore, PlayedUpToBad, RefusedCallEnds, RefusedNotCounted, TakeBeforeLengths,
+    OneLineMore, PictureUndoOfSong, PictureWriteOfSong, PlayedUpToBad, RefusedCallEnds,
+    RefusedNotCounted, TableNotLent, TakeBeforeLengths,
 };
 pub use sound::{
     ControlAsNothing, EightRegisters, HighestChannelFirst, ListWithoutStop, LoopInStopWord,
@@ -48,10 +57,10 @@ pub use sound::{
 pub use take::{
     AddressHighFirst, BadRecordFrom0, BeyondTakeCleared, CommentThoughRefused,
     CountAndOffsetSwapped, CountThoughBad, EndBy32Bits, FallingLineAccepted, FullRoomRefused,
-    GapAllowed, Kind0Accepted, Kind7Accepted, KindByValue, LineBy16Bits, MetBeforeLetters,
-    NoRecordsThoughMet, NoSuchRecordServed, NumberBeforeTrailer, OffsetCut, PortWithAddress,
-    RecordFrom0, RecordsBeforeMet, RoomBeforeRecords, SameLineBad, ThreeLetters, TrailerOf11,
-    UndoWithValue,
+    GapAllowed, Kind0Accepted, Kind10Accepted, KindByValue, LineBy16Bits, MetBeforeLetters,
+    NoRecordsThoughMet, NoSuchRecordServed, NumberBeforeTrailer, OffsetCut,
+    PictureWriteWithoutAddress, PortWithAddress, RecordFrom0, RecordsBeforeMet, RoomBeforeRecords,
+    SameLineBad, StartWithAddress, StartWithValue, ThreeLetters, TrailerOf11, UndoWithValue,
 };
 pub use undo::{
     CapturedSplitBack, DcsrKept, EmptyFirst, EmptyServed, OtherByteToo, PixelBackBy4Bits,

@@ -9,8 +9,10 @@
 //! - [`by_hand`] makes the calls of a take one by one.
 //! - [`fault`] has cores that go wrong in one rule, to see that tests fail.
 //! - [`compare`] makes random calls on both and compares all they give.
+//! - [`beside`] makes two runs that differ in one editor's calls, for the other.
 //! - [`random`] makes random bytes, lists and states.
 
+pub mod beside;
 pub mod by_hand;
 pub mod chip;
 pub mod compare;

@@ -7,7 +7,7 @@ mod convert;
 use crate::chip::{self, Did, Kind, Model};
 use plus::listing::{self, Printed, ReadBack};
 use plus::take::{self, Opened, Record, RecordRead, Replayed, Written, COUNTS};
-use plus::{kind, Access, Answer, Chip, Editing, Length, Report, State};
+use plus::{kind, Access, Answer, Chip, Editing, Editor, Length, Report, State, Table};
 use std::marker::PhantomData;
 use std::mem;
 
@@ -52,17 +52,18 @@ macro_rules! calls {
             fn new() -> Self;
 
             /// A take played from reset.
-            fn replay(ram: &[u8], store: &mut [u8], file: &[u8]) -> Replay<Self>;
+            fn replay(ram: &[u8], store: &mut [u8], table: Table, file: &[u8]) -> Replay<Self>;
 
-            /// All of its state but the record of page writes, which is empty here.
+            /// All of its state but the records of page writes, which are empty here.
             fn state(&self) -> State;
 
-            /// Puts it into a state. A lock's stage is 0 to 16. The record stays.
+            /// Puts it into a state. A lock's stage is 0 to 16, and while no table
+            /// holds its numbers are 0. The records stay.
             fn put(&mut self, state: State);
 
-            /// The record, the newest write first: addresses, and what their
+            /// An editor's record, the newest write first: addresses, and what their
             /// registers held before.
-            fn record(&self) -> Vec<(u16, u8)>;
+            fn record(&self, editor: Editor) -> Vec<(u16, u8)>;
 
             $($(#[$about])* fn $call(&mut self, $($name: $type),*) -> $answer;)*
 
@@ -74,20 +75,20 @@ macro_rules! calls {
                 Chip::new()
             }
 
-            fn replay(ram: &[u8], store: &mut [u8], file: &[u8]) -> Replay<Chip> {
-                Replay::of(take::replay(ram, store, file), |chip| chip)
+            fn replay(ram: &[u8], store: &mut [u8], table: Table, file: &[u8]) -> Replay<Chip> {
+                Replay::of(take::replay(ram, store, table, file), |chip| chip)
             }
 
             fn state(&self) -> State {
-                without_record(self)
+                without_records(self)
             }
 
             fn put(&mut self, state: State) {
-                put_beside_record(self, state);
+                put_beside_records(self, state);
             }
 
-            fn record(&self) -> Vec<(u16, u8)> {
-                Chip::record(self).collect()
+            fn record(&self, editor: Editor) -> Vec<(u16, u8)> {
+                Chip::record(self, editor).collect()
             }
 
             $(fn $call(&mut self, $($name: $type),*) -> $answer {
@@ -102,8 +103,8 @@ macro_rules! calls {
         /// A fault: the calls that it spoils. All others are the core's.
         pub trait Fault {
             /// A take played from reset.
-            fn replay(ram: &[u8], store: &mut [u8], file: &[u8]) -> Replayed {
-                take::replay(ram, store, file)
+            fn replay(ram: &[u8], store: &mut [u8], table: Table, file: &[u8]) -> Replayed {
+                take::replay(ram, store, table, file)
             }
 
             $($(#[$about])* fn $call(chip: &mut Chip, $($name: $type),*) -> $answer {
@@ -120,20 +121,26 @@ macro_rules! calls {
                 Faulty(Chip::new(), PhantomData)
             }
 
-            fn replay(ram: &[u8], store: &mut [u8], file: &[u8]) -> Replay<Faulty<F>> {
-                Replay::of(F::replay(ram, store, file), |chip| Faulty(chip, PhantomData))
+            fn replay(
+                ram: &[u8],
+                store: &mut [u8],
+                table: Table,
+                file: &[u8],
+            ) -> Replay<Faulty<F>> {
+                let replayed = F::replay(ram, store, table, file);
+                Replay::of(replayed, |chip| Faulty(chip, PhantomData))
             }
 
             fn state(&self) -> State {
-                without_record(&self.0)
+                without_records(&self.0)
             }
 
             fn put(&mut self, state: State) {
-                put_beside_record(&mut self.0, state);
+                put_beside_records(&mut self.0, state);
             }
 
-            fn record(&self) -> Vec<(u16, u8)> {
-                self.0.record().collect()
+            fn record(&self, editor: Editor) -> Vec<(u16, u8)> {
+                self.0.record(editor).collect()
             }
 
             $(fn $call(&mut self, $($name: $type),*) -> $answer {
@@ -161,14 +168,17 @@ calls! {
         /// A byte to 7Fxx.
         fn write_7f(byte: u8) -> Answer;
 
+        /// The table given.
+        fn start(table: Table) -> Answer;
+
         /// A page read: the answer and the byte.
-        fn page_read(store: &[u8], address: u16, bus: u8) -> (Answer, u8);
+        fn page_read(editor: Editor, store: &[u8], address: u16, bus: u8) -> (Answer, u8);
 
         /// A page write.
-        fn page_write(store: &mut [u8], address: u16, byte: u8) -> Answer;
+        fn page_write(editor: Editor, store: &mut [u8], address: u16, byte: u8) -> Answer;
 
-        /// The newest page write taken back.
-        fn undo(store: &mut [u8]) -> Answer;
+        /// An editor's newest page write taken back.
+        fn undo(editor: Editor, store: &mut [u8]) -> Answer;
 
         /// The registers exported.
         fn export(out: &mut [u8]) -> Answer;
@@ -217,19 +227,25 @@ calls! {
 /// The core with a fault.
 pub struct Faulty<F>(Chip, PhantomData<F>);
 
-/// The core's state with an empty record: where that stands in its ring is no
+/// The core's state with empty records: where these stand in their rings is no
 /// part of what a machine has to be.
-fn without_record(chip: &Chip) -> State {
+fn without_records(chip: &Chip) -> State {
     State {
-        editing: Editing::default(),
+        editing: Editing {
+            table: chip.editing.table,
+            ..Editing::default()
+        },
         ..**chip
     }
 }
 
-/// The core in another state, with the record that it has.
-fn put_beside_record(chip: &mut Chip, state: State) {
+/// The core in another state, with the records that it has.
+fn put_beside_records(chip: &mut Chip, state: State) {
     **chip = State {
-        editing: chip.editing,
+        editing: Editing {
+            table: state.editing.table,
+            ..chip.editing
+        },
         ..state
     };
 }
@@ -239,14 +255,14 @@ impl Machine for Model {
         Model::new()
     }
 
-    fn replay(ram: &[u8], store: &mut [u8], file: &[u8]) -> Replay<Model> {
+    fn replay(ram: &[u8], store: &mut [u8], table: Table, file: &[u8]) -> Replay<Model> {
         let chip::Replay {
             answer: number,
             bad,
             chip,
             lines,
             counts,
-        } = chip::replay(ram, store, file);
+        } = chip::replay(ram, store, table.into(), file);
         Replay {
             answer: answer(number),
             bad,
@@ -261,13 +277,13 @@ impl Machine for Model {
     }
 
     fn put(&mut self, state: State) {
-        let record = mem::take(&mut self.record);
+        let undo = mem::take(&mut self.undo);
         *self = Model::from(state);
-        self.record = record;
+        self.undo = undo;
     }
 
-    fn record(&self) -> Vec<(u16, u8)> {
-        self.record.iter().rev().copied().collect()
+    fn record(&self, editor: Editor) -> Vec<(u16, u8)> {
+        self.kept(editor.into()).iter().rev().copied().collect()
     }
 
     fn reset(&mut self) {
@@ -286,17 +302,21 @@ impl Machine for Model {
         answer(Model::write_7f(self, byte))
     }
 
-    fn page_read(&mut self, store: &[u8], address: u16, bus: u8) -> (Answer, u8) {
-        let (number, byte) = Model::page_read(self, store, address, bus);
+    fn start(&mut self, table: Table) -> Answer {
+        answer(Model::start(self, table.into()))
+    }
+
+    fn page_read(&mut self, editor: Editor, store: &[u8], address: u16, bus: u8) -> (Answer, u8) {
+        let (number, byte) = Model::page_read(self, editor.into(), store, address, bus);
         (answer(number), byte)
     }
 
-    fn page_write(&mut self, store: &mut [u8], address: u16, byte: u8) -> Answer {
-        answer(Model::page_write(self, store, address, byte))
+    fn page_write(&mut self, editor: Editor, store: &mut [u8], address: u16, byte: u8) -> Answer {
+        answer(Model::page_write(self, editor.into(), store, address, byte))
     }
 
-    fn undo(&mut self, store: &mut [u8]) -> Answer {
-        answer(Model::undo(self, store))
+    fn undo(&mut self, editor: Editor, store: &mut [u8]) -> Answer {
+        answer(Model::undo(self, editor.into(), store))
     }
 
     fn export(&mut self, out: &mut [u8]) -> Answer {

@@ -1,7 +1,7 @@
 //! Random states, sound lists and bytes, the same on every run.
 
 use plus::take::{kind, Record};
-use plus::{Access, Channel, Chip, Counters, Sprite, State};
+use plus::{Access, Channel, Chip, Counters, Held, Sprite, State, Table};
 
 /// A plain random source (xorshift), the same on every run.
 pub struct Random(pub u64);
@@ -59,7 +59,7 @@ impl Random {
     }
 }
 
-/// Any state within the widths that document 01 gives.
+/// Any state within the widths that document 01 gives, with no table.
 pub fn any_state(random: &mut Random) -> State {
     let r = random;
     let mut state = *Chip::new();
@@ -86,6 +86,32 @@ pub fn any_state(random: &mut Random) -> State {
     }
     r.fill(&mut state.sound.psg);
     state
+}
+
+/// A table: of any owners, or with all of a kind for one editor.
+pub fn any_table(random: &mut Random) -> Table {
+    let r = random;
+    let any = r.next();
+    Table {
+        palette: r.pick(&[any as u32, any as u32, 0, u32::MAX]),
+        sprites: r.pick(&[(any >> 8) as u16, (any >> 8) as u16, 0, u16::MAX]),
+        channels: r.pick(&[(any >> 24) as u8, (any >> 24) as u8, 0, 7, 0xFF]),
+    }
+}
+
+/// How a chip holds a table.
+pub fn held(table: Table) -> Held {
+    let Table {
+        palette,
+        sprites,
+        channels,
+    } = table.kept();
+    Held {
+        held: true,
+        channels,
+        sprites,
+        palette,
+    }
 }
 
 /// The 6845 and the registers for its lines.
@@ -237,9 +263,12 @@ fn any_record(random: &mut Random, line: u32) -> Record {
         kind::PAGE_WRITE,
         kind::ACKNOWLEDGE,
         kind::UNDO,
+        kind::PICTURE_WRITE,
+        kind::PICTURE_UNDO,
+        kind::START,
     ]);
-    let has_address = kind == kind::PAGE_WRITE;
-    let has_value = kind <= kind::PAGE_WRITE;
+    let has_address = matches!(kind, kind::PAGE_WRITE | kind::PICTURE_WRITE);
+    let has_value = has_address || kind <= kind::WRITE_7F;
     Record {
         line,
         kind,
@@ -255,7 +284,7 @@ pub fn spoilt(random: &mut Random, mut records: Vec<Record>) -> Vec<Record> {
     let record = &mut records[at];
     match random.below(4) {
         0 => record.line = random.either(2, 1 << 32, 4) as u32,
-        1 => record.kind = random.either(2, 256, 9) as u8,
+        1 => record.kind = random.either(2, 256, 12) as u8,
         2 => record.address ^= 1 << random.below(16),
         _ => record.value ^= 1 << random.below(8),
     }
@@ -277,6 +306,6 @@ pub fn take_byte(random: &mut Random) -> u8 {
     match random.below(4) {
         0 => random.byte(),
         1 => random.pick(b"PLTK"),
-        _ => random.below(9) as u8,
+        _ => random.below(12) as u8,
     }
 }

@@ -2,7 +2,7 @@
 //! ends the test.
 
 use crate::machine::Machine;
-use plus::{Access, Answer, Report, State, EXPORT, LINE, RAM, STORE, UNLOCK};
+use plus::{Access, Answer, Editor, Report, State, EXPORT, LINE, RAM, STORE, UNLOCK};
 
 /// What follows a byte that isn't zero and a zero, in the unlock sequence.
 pub const KEY: &[u8] = UNLOCK.split_at(2).1.split_at(14).0;
@@ -60,22 +60,32 @@ pub trait UnderTest: Machine + Sized {
         self.put(state);
     }
 
-    /// A page write where the pixels don't matter.
+    /// A page write of the song editor where the pixels don't matter.
     fn poke(&mut self, address: u16, byte: u8) {
-        let answer = self.page_write(&mut [0; STORE], address, byte);
+        self.poke_by(Editor::Song, address, byte);
+    }
+
+    /// The same of an editor.
+    fn poke_by(&mut self, editor: Editor, address: u16, byte: u8) {
+        let answer = self.page_write(editor, &mut [0; STORE], address, byte);
         assert_eq!(answer, Answer::Done, "{address:04X}");
     }
 
-    /// A page read where they don't.
+    /// A page read of the song editor where they don't.
     fn peek(&mut self, address: u16, bus: u8) -> u8 {
-        let (answer, byte) = self.page_read(&[0; STORE], address, bus);
+        self.peek_by(Editor::Song, address, bus)
+    }
+
+    /// The same of an editor.
+    fn peek_by(&mut self, editor: Editor, address: u16, bus: u8) -> u8 {
+        let (answer, byte) = self.page_read(editor, &[0; STORE], address, bus);
         assert_eq!(answer, Answer::Done, "{address:04X}");
         byte
     }
 
-    /// An undo where they don't.
+    /// An undo of the song editor where they don't.
     fn take_back(&mut self) {
-        assert_eq!(self.undo(&mut [0; STORE]), Answer::Done);
+        assert_eq!(self.undo(Editor::Song, &mut [0; STORE]), Answer::Done);
     }
 
     /// The export, over other bytes.

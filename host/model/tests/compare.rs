@@ -19,8 +19,9 @@ fn core_is_the_model() {
         &[0],
         &[0, 3],
         &[0, 3],
+        &[0],
         &[0, 1, 2],
-        &[0, 1, 2, 3, 9],
+        &[0, 1, 2, 3, 9, 15],
         &[0, 1, 10],
         &[0, 1],
         &[0, 5],
@@ -37,9 +38,12 @@ fn core_is_the_model() {
             }
         }
     }
-    // The record was full many times, and went on.
+    // A table held for a good part of them, and for a good part none did.
+    assert!(tally.held >= 200_000, "{}", tally.held);
+    assert!(tally.held <= 800_000, "{}", tally.held);
+    // A record was full many times, and went on.
     assert!(tally.filled >= 1_000, "{}", tally.filled);
-    assert!(tally.dropped >= 50_000, "{}", tally.dropped);
+    assert!(tally.dropped >= 30_000, "{}", tally.dropped);
     // LOADs met the processor in each of the three ways.
     for (met, times) in tally.loads.into_iter().enumerate() {
         assert!(times >= 1_000, "{met}: {times}");
@@ -78,14 +82,18 @@ macro_rules! caught {
 }
 
 caught! {
-    reset: RecordThroughReset;
+    reset: RecordThroughReset, TableThroughReset;
     write_bc: LostZero, UnlockedAtCd, LockingUnmaps;
     write_bd: WholeR4;
     write_7f: MappedAt10;
-    page_read: HighByteOfBits, LengthLast;
+    start: RecordsThroughStart, PictureRecordThroughStart, FirstTableStays, ChannelsBy8Bits;
+    page_read: HighByteOfBits, LengthLast, OthersChannelsShown, Bit7Shown, OthersNotRead;
     page_write: WholePixel, NoMirrors, OneKindOfNothing, PauseEndedByStart,
-        PauseRestartedByDisable, DcsrKept, RefusedKept, SameNotKept, RecordOf255;
-    undo: WrittenByteBack, PixelBackBy4Bits, OtherByteToo, CapturedSplitBack, EmptyServed,
+        PauseRestartedByDisable, DcsrKept, RefusedKept, SameNotKept, RecordOf255,
+        NotYoursServed, NotYoursAsNothing, NotYoursUnmapped, ConverterOfNobody,
+        NothingOfNobody, IvrOfBoth, ScreenOfSong, PixelOfNextSprite, HighByteOfNextEntry,
+        OthersInterruptCleared, OthersEnabled, DcsrOfOwners, OneRecord;
+    undo: UndoOfOther, WrittenByteBack, PixelBackBy4Bits, OtherByteToo, CapturedSplitBack, EmptyServed,
         EmptyFirst, UndoWhereMapped, UndoWhereUnlocked;
     export: XHighAsRead, MagnificationAtMirror, HighAddressFirst, StartOneWordBack, NoPrescales,
         ExportedThoughRefused;
@@ -211,9 +219,10 @@ macro_rules! take_caught {
 take_caught! {
     AddressHighFirst, BadRecordFrom0, BeyondTakeCleared, CommentThoughRefused,
     CountAndOffsetSwapped, CountThoughBad, FallingLineAccepted, FullRoomRefused, GapAllowed,
-    Kind0Accepted, Kind7Accepted, KindByValue, LineBy16Bits, MetBeforeLetters,
+    Kind0Accepted, Kind10Accepted, KindByValue, LineBy16Bits, MetBeforeLetters,
     NoRecordsThoughMet, NoSuchRecordServed, NumberBeforeTrailer, PortWithAddress, RecordFrom0,
-    RecordsBeforeMet, RoomBeforeRecords, SameLineBad, ThreeLetters, TrailerOf11, UndoWithValue
+    RecordsBeforeMet, RoomBeforeRecords, SameLineBad, ThreeLetters, TrailerOf11, UndoWithValue,
+    StartWithValue, StartWithAddress, PictureWriteWithoutAddress
 }
 
 /// A test for each order of refusals: it is seen where all sets of faults are.
@@ -247,7 +256,7 @@ fn takes_play_as_by_hand() {
     // A record's call can be refused with these, and with no other.
     for (number, times) in tally.counts.into_iter().enumerate() {
         match number {
-            2 | 3 | 5 | 9 | 10 => assert!(times >= 1_000, "{tally:?}"),
+            2 | 3 | 5 | 9 | 10 | 15 => assert!(times >= 1_000, "{tally:?}"),
             _ => assert_eq!(times, 0, "{tally:?}"),
         }
     }
@@ -266,5 +275,6 @@ macro_rules! replay_caught {
 
 replay_caught! {
     CountedTogether, FirstRecordSkipped, LinesAfterTheCall, NoLinesInModeThree, NotFromReset,
-    OneLineMore, PlayedUpToBad, RefusedCallEnds, RefusedNotCounted, TakeBeforeLengths
+    OneLineMore, PlayedUpToBad, RefusedCallEnds, RefusedNotCounted, TakeBeforeLengths,
+    PictureUndoOfSong, PictureWriteOfSong, TableNotLent
 }

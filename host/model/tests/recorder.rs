@@ -1,19 +1,22 @@
 //! A recorder: what it notes, and that the calls noted lead to the same chip.
 
 use model::by_hand::ByHand;
-use model::compare::replay::{in_a_take, note};
+use model::compare::replay::{for_a_take, note};
 use model::compare::Script;
-use plus::take::{file_of, kind, Noted, Record, Recorder, Take};
-use plus::{Access, Answer, Chip, State, RAM, STORE, UNLOCK};
+use plus::take::{file_of, kind, NoRecords, Noted, Record, Recorder, Take};
+use plus::Editor::{self, Picture, Song};
+use plus::{Access, Answer, Chip, State, Table, RAM, STORE, UNLOCK};
 
 /// The processor is off the 8255: a take says nothing of it, and the state does
 /// not depend on it.
 const OFF: [Access; 3] = [Access::Off; 3];
 
-/// All that a call can change.
-fn shown(played: &ByHand<Chip>) -> (State, Vec<(u16, u8)>, Vec<u8>) {
-    let record = played.chip.record().collect();
-    (*played.chip, record, played.store.to_vec())
+/// All that a call can change: the state, both records and the store.
+type Shown = (State, [Vec<(u16, u8)>; 2], Vec<u8>);
+
+fn shown(chip: &Chip, store: &[u8]) -> Shown {
+    let records = Editor::BOTH.map(|editor| chip.record(editor).collect());
+    (**chip, records, store.to_vec())
 }
 
 /// Scripts from reset.
@@ -32,25 +35,27 @@ fn the_calls_noted_lead_to_the_same_chip() {
         for (mode, noted) in [Noted::Changes, Noted::Served].into_iter().enumerate() {
             let (mut recorder, mut lent) = (Recorder::new(noted), script.lent.clone());
             let mut lines = 0;
-            for &call in script.calls.iter().filter(|call| in_a_take(call)) {
+            let (calls, table) = for_a_take(&script.calls);
+            for call in calls {
                 lines += u32::from(note(call, &mut recorder, &mut lent));
             }
             let records = recorder.records().unwrap();
+            assert_eq!(recorder.given_table(), table);
             counted[mode] += records.len();
 
             let mut store = script.lent.store[..STORE].to_vec();
-            let mut played = ByHand::<Chip>::new(&script.lent.ram[..RAM], &mut store);
+            let mut played = ByHand::<Chip>::new(&script.lent.ram[..RAM], &mut store, table);
             for &record in records {
                 played.step_to(record.line);
-                let before = shown(&played);
+                let before = shown(&played.chip, played.store);
                 assert_eq!(played.call(record), Answer::Done, "{record:?}");
-                let changed = shown(&played) != before;
+                let changed = shown(&played.chip, played.store) != before;
                 assert!(changed || noted == Noted::Served, "{record:?}");
             }
             played.step_to(lines);
-            let record: Vec<(u16, u8)> = recorder.record().collect();
-            let end = (**recorder, record, lent.store[..STORE].to_vec());
-            assert!(shown(&played) == end, "seed {}", script.seed);
+            let end = shown(&recorder, &lent.store[..STORE]);
+            let by_hand = shown(&played.chip, played.store);
+            assert!(by_hand == end, "seed {}", script.seed);
         }
     }
     // Some calls left everything as it was.
@@ -63,7 +68,7 @@ fn the_calls_noted_lead_to_the_same_chip() {
 fn what_is_noted_is_written_and_opened() {
     for script in scripts() {
         let (mut recorder, mut lent) = (Recorder::new(Noted::Served), script.lent.clone());
-        for &call in script.calls.iter().filter(|call| in_a_take(call)) {
+        for call in for_a_take(&script.calls).0 {
             note(call, &mut recorder, &mut lent);
         }
         let records = recorder.records().unwrap();
@@ -92,17 +97,26 @@ fn each_kind_with_its_line() {
     ram[..2].copy_from_slice(&0x4030_u16.to_le_bytes());
     recorder.write_bc(9);
     let _ = recorder.write_bd(7);
-    let _ = recorder.page_write(&mut store, 0x6805, 0);
-    let _ = recorder.page_write(&mut store, 0x6C0F, 1);
+    let _ = recorder.page_write(Song, &mut store, 0x6805, 0);
+    let _ = recorder.page_write(Song, &mut store, 0x6C0F, 1);
     assert_eq!(recorder.step(&ram, OFF).0, 0);
     assert_eq!(recorder.acknowledge().0, 0);
     // Refused, and no line step.
     assert_eq!(recorder.step(&ram[1..], OFF).0, 1);
-    assert_eq!(recorder.undo(&mut store[1..]), 1);
+    assert_eq!(recorder.undo(Song, &mut store[1..]), 1);
     assert_eq!(recorder.acknowledge().0, 5);
     let _ = recorder.step(&ram, OFF);
-    let _ = recorder.page_write(&mut store, 0x4000, 0x0F);
-    let _ = recorder.undo(&mut store);
+    let _ = recorder.page_write(Song, &mut store, 0x4000, 0x0F);
+    let _ = recorder.undo(Song, &mut store);
+    recorder.start(Table {
+        palette: 1,
+        sprites: 0,
+        channels: 0,
+    });
+    assert_eq!(recorder.page_write(Song, &mut store, 0x6400, 5), 15);
+    assert_eq!(recorder.page_write(Picture, &mut store, 0x6400, 5), 0);
+    assert_eq!(recorder.undo(Song, &mut store), 10);
+    assert_eq!(recorder.undo(Picture, &mut store), 0);
     let record = |line, kind, address, value| Record {
         line,
         kind,
@@ -117,6 +131,9 @@ fn each_kind_with_its_line() {
         record(1, kind::ACKNOWLEDGE, 0, 0),
         record(2, kind::PAGE_WRITE, 0x4000, 0x0F),
         record(2, kind::UNDO, 0, 0),
+        record(2, kind::START, 0, 0),
+        record(2, kind::PICTURE_WRITE, 0x6400, 5),
+        record(2, kind::PICTURE_UNDO, 0, 0),
     ];
     assert_eq!(recorder.records().unwrap()[before..], expected);
 }
@@ -132,14 +149,14 @@ fn calls_that_change_nothing() {
         // The register selected again, the page mapped again, no enable set.
         recorder.write_bc(3);
         let _ = recorder.write_7f(0xB8);
-        let _ = recorder.page_write(&mut store, 0x6C0F, 0);
+        let _ = recorder.page_write(Song, &mut store, 0x6C0F, 0);
         assert_eq!(recorder.records().unwrap().len(), before + more);
         // A byte that its register has already is kept for undo, which is a change.
-        let _ = recorder.page_write(&mut store, 0x6800, 0);
-        let _ = recorder.page_write(&mut store, 0x4000, 0);
+        let _ = recorder.page_write(Song, &mut store, 0x6800, 0);
+        let _ = recorder.page_write(Song, &mut store, 0x4000, 0);
         assert_eq!(recorder.records().unwrap().len(), before + more + 2);
         // A read is never noted, nor is drawing or an export.
-        let _ = recorder.page_read(&store, 0x6800, 0);
+        let _ = recorder.page_read(Song, &store, 0x6800, 0);
         let _ = recorder.export(&mut [0; plus::EXPORT]);
         assert_eq!(recorder.records().unwrap().len(), before + more + 2);
     }
@@ -151,13 +168,83 @@ fn more_writes_than_can_be_undone() {
     let (mut recorder, before) = mapped(Noted::Changes);
     let mut store = vec![0; STORE];
     for _ in 0..700 {
-        let _ = recorder.page_write(&mut store, 0x4000, 0);
+        let _ = recorder.page_write(Song, &mut store, 0x4000, 0);
     }
     assert_eq!(recorder.records().unwrap().len(), before + 700);
     for _ in 0..300 {
-        let _ = recorder.undo(&mut store);
+        let _ = recorder.undo(Song, &mut store);
     }
     assert_eq!(recorder.records().unwrap().len(), before + 700 + 256);
+}
+
+/// A table is handed out as it was given, and two with the same owners are one.
+#[test]
+fn the_table_of_the_starts() {
+    let (mut recorder, before) = mapped(Noted::Served);
+    assert_eq!(recorder.given_table(), Table::default());
+    let table = Table {
+        palette: 0x1234_5678,
+        sprites: 0x9ABC,
+        channels: 0xFD,
+    };
+    recorder.start(table);
+    assert_eq!(recorder.given_table(), table);
+    recorder.start(Table {
+        channels: 0x05,
+        ..table
+    });
+    assert_eq!(recorder.records().unwrap().len(), before + 2);
+    assert_eq!(recorder.given_table(), table);
+    // In the other mode a start that leaves all as it was is no change.
+    let (mut recorder, before) = mapped(Noted::Changes);
+    for _ in 0..3 {
+        recorder.start(Table::default());
+    }
+    assert_eq!(recorder.records().unwrap().len(), before + 1);
+}
+
+#[test]
+fn two_tables_leave_no_records() {
+    let table = Table {
+        palette: 1,
+        sprites: 2,
+        channels: 4,
+    };
+    for other in [
+        Table::default(),
+        Table {
+            palette: 0,
+            ..table
+        },
+        Table {
+            sprites: 3,
+            ..table
+        },
+        Table {
+            channels: 0,
+            ..table
+        },
+    ] {
+        for noted in [Noted::Changes, Noted::Served] {
+            let (mut recorder, _) = mapped(noted);
+            for given in [table, table] {
+                recorder.start(given);
+                assert!(recorder.records().is_ok());
+            }
+            recorder.start(other);
+            assert_eq!(recorder.records(), Err(NoRecords::TwoTables));
+            // The first one given again makes no difference, but a reset does.
+            recorder.start(table);
+            recorder.write_bc(1);
+            assert_eq!(recorder.records(), Err(NoRecords::TwoTables));
+            recorder.reset();
+            assert_eq!(recorder.records(), Ok(&[][..]));
+            assert_eq!(recorder.given_table(), Table::default());
+            recorder.start(other);
+            assert_eq!(recorder.given_table(), other);
+            assert_eq!(recorder.records().unwrap().len(), 1);
+        }
+    }
 }
 
 #[test]

@@ -10,7 +10,7 @@ use model::random::{any_records, mixed_word, Random};
 use model::under_test::UnderTest;
 use plus::listing::{self, LONGEST_LINE};
 use plus::take::{self, kind, Record};
-use plus::{Chip, EXPORT, LINE, PLACES, RAM, STORE, UNLOCK};
+use plus::{Chip, Editor, Table, EXPORT, LINE, PLACES, RAM, STORE, UNLOCK};
 use std::env;
 use std::hint::black_box;
 use std::process::{Command, ExitCode};
@@ -330,7 +330,7 @@ fn moved(sprite: u16, frame: usize) -> [(u16, u8); 4] {
 macro_rules! calls_of {
     (
         $run:ident, $machine:ident, $forecast:path, $print:path, $read:path, $write:path,
-        $open:path, $replay:path, $off:path
+        $open:path, $replay:path, $off:path, $song:path, $table:path
     ) => {
         fn $run(case: &Case, count: usize) -> Duration {
             let (mut machine, mut lent) = (set_up::<$machine>(case), lent());
@@ -344,10 +344,10 @@ macro_rules! calls_of {
                 }),
                 Work::PageWrite => repeat(count, |i| {
                     let address = 0x6400 + i as u16 % 64;
-                    black_box(machine.page_write(&mut lent.store, address, i as u8));
+                    black_box(machine.page_write($song, &mut lent.store, address, i as u8));
                 }),
                 Work::PageRead => repeat(count, |i| {
-                    black_box(machine.page_read(&lent.store, 0x6400 + i as u16 % 64, 0));
+                    black_box(machine.page_read($song, &lent.store, 0x6400 + i as u16 % 64, 0));
                 }),
                 Work::Undo => {
                     let full = machine.clone();
@@ -355,7 +355,7 @@ macro_rules! calls_of {
                         if i % PLACES == 0 {
                             machine = full.clone();
                         }
-                        black_box(machine.undo(&mut lent.store));
+                        black_box(machine.undo($song, &mut lent.store));
                     });
                 }
                 Work::Export => repeat(count, |_| {
@@ -370,7 +370,7 @@ macro_rules! calls_of {
                 }),
                 Work::Moving => repeat(count, |frame| {
                     for (address, byte) in (0..case.sprites).flat_map(|n| moved(n, frame)) {
-                        black_box(machine.page_write(&mut lent.store, address, byte));
+                        black_box(machine.page_write($song, &mut lent.store, address, byte));
                     }
                     for _ in 0..312 {
                         black_box(machine.draw(&lent.ram, &lent.store, &mut lent.line));
@@ -393,7 +393,8 @@ macro_rules! calls_of {
                     black_box($open(&lent.take));
                 }),
                 Work::Replay => repeat(count, |_| {
-                    black_box($replay(&lent.ram, &mut lent.store, &lent.played));
+                    let table = <$table>::default();
+                    black_box($replay(&lent.ram, &mut lent.store, table, &lent.played));
                 }),
                 Work::ByHand => repeat(count, |_| {
                     machine = $machine::new();
@@ -402,7 +403,7 @@ macro_rules! calls_of {
                     }
                     black_box(machine.write_7f(0xB8));
                     for _ in 0..STRETCHES {
-                        black_box(machine.page_write(&mut lent.store, 0x6C0F, 7));
+                        black_box(machine.page_write($song, &mut lent.store, 0x6C0F, 7));
                         for _ in 0..STRETCH {
                             black_box(machine.step(&lent.ram, [$off; 3]));
                         }
@@ -432,7 +433,9 @@ calls_of!(
     take::write,
     take::open,
     take::replay,
-    plus::Access::Off
+    plus::Access::Off,
+    Editor::Song,
+    Table
 );
 calls_of!(
     run_model,
@@ -443,7 +446,9 @@ calls_of!(
     chip::take_write,
     chip::take_open,
     chip::replay,
-    chip::Access::Off
+    chip::Access::Off,
+    chip::Editor::Song,
+    chip::Table
 );
 
 fn repeat(count: usize, call: impl FnMut(usize)) {

@@ -1,6 +1,6 @@
 //! The register page, 4000h to 7FFFh.
 
-use super::{answer, Model, Sprite, STORE};
+use super::{answer, Editor, Model, Sprite, STORE};
 
 /// The grey of a palette entry: 9 green + 3 red + blue.
 pub fn grey(low: u8, high: u8) -> u8 {
@@ -83,7 +83,7 @@ impl Model {
     }
 
     /// The answer and the byte read; `bus` where nothing is readable.
-    pub fn page_read(&self, store: &[u8], address: u16, bus: u8) -> (u8, u8) {
+    pub fn page_read(&self, editor: Editor, store: &[u8], address: u16, bus: u8) -> (u8, u8) {
         if let Some(refusal) = self.page_refusal(store, address) {
             return (refusal, 0);
         }
@@ -95,15 +95,18 @@ impl Model {
             }
             0x6400..=0x643F => self.palette[address as usize - 0x6400],
             0x6808..=0x680F => 0,
-            0x6C00..=0x6C0F => self.read_dcsr(),
+            0x6C00..=0x6C0F => self.read_dcsr(editor),
             _ => bus,
         };
         (answer::DONE, byte)
     }
 
-    pub fn page_write(&mut self, store: &mut [u8], address: u16, value: u8) -> u8 {
+    pub fn page_write(&mut self, editor: Editor, store: &mut [u8], address: u16, value: u8) -> u8 {
         if let Some(refusal) = self.page_refusal(store, address) {
             return refusal;
+        }
+        if self.is_not_yours(editor, address) {
+            return answer::NOT_YOURS;
         }
         let before = self.contents(store, address);
         let written = match address {
@@ -112,18 +115,22 @@ impl Model {
                 true
             }
             0x6808..=0x680F => return answer::CONVERTER_THERE,
+            0x6C0F => {
+                self.write_dcsr(editor, value);
+                true
+            }
             _ => self.write_register(address, value),
         };
         if !written {
             return answer::NOTHING_THERE;
         }
         if let Some(before) = before {
-            self.keep(address, before);
+            self.keep(editor, address, before);
         }
         answer::DONE
     }
 
-    /// A register outside the pixels; false if there is nothing to write.
+    /// A register outside the pixels but DCSR; false if there is nothing to write.
     pub(super) fn write_register(&mut self, address: u16, value: u8) -> bool {
         match address {
             0x6000..=0x607F => {
@@ -152,12 +159,8 @@ impl Model {
         }
     }
 
-    /// The channels' registers and DCSR; false if there is nothing to write.
+    /// The channels' registers; false if there is nothing to write.
     fn write_sound(&mut self, offset: u16, value: u8) -> bool {
-        if offset == 0x0F {
-            self.write_dcsr(value);
-            return true;
-        }
         let Some(channel) = self.sound.channels.get_mut(offset as usize / 4) else {
             return false;
         };
@@ -170,19 +173,28 @@ impl Model {
         true
     }
 
-    /// Enables in bits 0 to 2 for channels 0 to 2, interrupts in bits 6 to 4.
-    fn read_dcsr(&self) -> u8 {
-        let mut byte = (self.interrupts.last_raster as u8) << 7;
+    /// Enables in bits 0 to 2 for channels 0 to 2, interrupts in bits 6 to 4; those
+    /// of the reader's channels. Bit 7 is nobody's, and shown where no table holds.
+    fn read_dcsr(&self, editor: Editor) -> u8 {
+        let last_raster = self.interrupts.last_raster && self.table.is_none();
+        let mut byte = (last_raster as u8) << 7;
         for (n, channel) in self.sound.channels.iter().enumerate() {
-            byte |= (channel.enabled as u8) << n;
-            byte |= (channel.interrupt as u8) << (6 - n);
+            if self.has_channel(editor, n) {
+                byte |= (channel.enabled as u8) << n;
+                byte |= (channel.interrupt as u8) << (6 - n);
+            }
         }
         byte
     }
 
-    /// Sets all three enables; a 1 clears that channel's interrupt.
-    fn write_dcsr(&mut self, value: u8) {
+    /// Sets the enables of the writer's channels; a 1 clears that channel's
+    /// interrupt.
+    fn write_dcsr(&mut self, editor: Editor, value: u8) {
+        let own = [0, 1, 2].map(|n| self.has_channel(editor, n));
         for (n, channel) in self.sound.channels.iter_mut().enumerate() {
+            if !own[n] {
+                continue;
+            }
             channel.enabled = value >> n & 1 != 0;
             if value >> (6 - n) & 1 != 0 {
                 channel.interrupt = false;

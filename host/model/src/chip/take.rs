@@ -48,8 +48,8 @@ impl Record {
     fn has_its_parts(&self) -> bool {
         match self.kind {
             1..=3 => self.address == 0,
-            4 => true,
-            5 | 6 => self.address == 0 && self.value == 0,
+            4 | 7 => true,
+            5 | 6 | 8 | 9 => self.address == 0 && self.value == 0,
             _ => false,
         }
     }

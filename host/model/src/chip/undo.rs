@@ -1,6 +1,6 @@
-//! What registers hold, the record of page writes, undo, and the export.
+//! What registers hold, the records of page writes, undo, and the export.
 
-use super::{answer, Channel, Model, Sprite, EXPORT, KEPT, STORE};
+use super::{answer, Channel, Editor, Model, Sprite, EXPORT, PLACES, STORE};
 
 impl Sprite {
     /// The bits kept of one of its bytes; magnification is there four times.
@@ -68,20 +68,21 @@ impl Model {
         }
     }
 
-    /// Keeps a write, and of more than 256 the newest.
-    pub(super) fn keep(&mut self, address: u16, before: u8) {
-        if self.record.len() == KEPT {
-            self.record.remove(0);
+    /// Keeps an editor's write, and of more than 256 the newest.
+    pub(super) fn keep(&mut self, editor: Editor, address: u16, before: u8) {
+        let kept = self.kept_mut(editor);
+        if kept.len() == PLACES {
+            kept.remove(0);
         }
-        self.record.push((address, before));
+        kept.push((address, before));
     }
 
-    /// Takes back the newest write that is left.
-    pub fn undo(&mut self, store: &mut [u8]) -> u8 {
+    /// Takes back an editor's newest write that is left.
+    pub fn undo(&mut self, editor: Editor, store: &mut [u8]) -> u8 {
         if store.len() != STORE {
             return answer::WRONG_LENGTH;
         }
-        let Some((address, before)) = self.record.pop() else {
+        let Some((address, before)) = self.kept_mut(editor).pop() else {
             return answer::NOTHING_TO_UNDO;
         };
         match address {

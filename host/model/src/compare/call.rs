@@ -1,7 +1,7 @@
 //! One call of a script, made on a machine.
 
 use crate::machine::Machine;
-use plus::{Access, Answer, Length, Report};
+use plus::{Access, Answer, Editor, Length, Report, Table};
 
 /// Bytes that follow each buffer, for lengths above the right one.
 pub const SPARE: usize = 16;
@@ -22,17 +22,21 @@ pub enum Call {
     WriteBc(u8),
     WriteBd(u8),
     Write7f(u8),
+    Start(Table),
     PageRead {
+        editor: Editor,
         store: usize,
         address: u16,
         bus: u8,
     },
     PageWrite {
+        editor: Editor,
         store: usize,
         address: u16,
         byte: u8,
     },
     Undo {
+        editor: Editor,
         store: usize,
     },
     Export {
@@ -85,11 +89,12 @@ impl Reply {
 }
 
 impl Call {
-    pub const NAMES: [&'static str; 12] = [
+    pub const NAMES: [&'static str; 13] = [
         "reset",
         "write_bc",
         "write_bd",
         "write_7f",
+        "start",
         "page_read",
         "page_write",
         "undo",
@@ -107,14 +112,15 @@ impl Call {
             Call::WriteBc(_) => Some(1),
             Call::WriteBd(_) => Some(2),
             Call::Write7f(_) => Some(3),
-            Call::PageRead { .. } => Some(4),
-            Call::PageWrite { .. } => Some(5),
-            Call::Undo { .. } => Some(6),
-            Call::Export { .. } => Some(7),
-            Call::Acknowledge => Some(8),
-            Call::Step { .. } => Some(9),
-            Call::Forecast { .. } => Some(10),
-            Call::Draw { .. } => Some(11),
+            Call::Start(_) => Some(4),
+            Call::PageRead { .. } => Some(5),
+            Call::PageWrite { .. } => Some(6),
+            Call::Undo { .. } => Some(7),
+            Call::Export { .. } => Some(8),
+            Call::Acknowledge => Some(9),
+            Call::Step { .. } => Some(10),
+            Call::Forecast { .. } => Some(11),
+            Call::Draw { .. } => Some(12),
             Call::Ram { .. } => None,
         }
     }
@@ -129,20 +135,28 @@ impl Call {
             Call::WriteBc(byte) => Reply::Answer(machine.write_bc(byte)),
             Call::WriteBd(byte) => Reply::Answer(machine.write_bd(byte)),
             Call::Write7f(byte) => Reply::Answer(machine.write_7f(byte)),
+            Call::Start(table) => Reply::Answer(machine.start(table)),
             Call::PageRead {
+                editor,
                 store,
                 address,
                 bus,
             } => {
-                let (number, byte) = machine.page_read(&lent.store[..store], address, bus);
+                let (number, byte) = machine.page_read(editor, &lent.store[..store], address, bus);
                 Reply::Byte(number, byte)
             }
             Call::PageWrite {
+                editor,
                 store,
                 address,
                 byte,
-            } => Reply::Answer(machine.page_write(&mut lent.store[..store], address, byte)),
-            Call::Undo { store } => Reply::Answer(machine.undo(&mut lent.store[..store])),
+            } => {
+                let store = &mut lent.store[..store];
+                Reply::Answer(machine.page_write(editor, store, address, byte))
+            }
+            Call::Undo { editor, store } => {
+                Reply::Answer(machine.undo(editor, &mut lent.store[..store]))
+            }
             Call::Export { out } => Reply::Answer(machine.export(&mut lent.export[..out])),
             Call::Acknowledge => {
                 let (number, vector) = machine.acknowledge();

@@ -2,7 +2,7 @@
 
 use super::Buffers;
 use crate::machine::Machine;
-use plus::State;
+use plus::{Editor, State};
 
 /// How the states or the records of two machines differ, if they do.
 pub(super) fn machines(core: &impl Machine, other: &impl Machine) -> Option<String> {
@@ -10,9 +10,11 @@ pub(super) fn machines(core: &impl Machine, other: &impl Machine) -> Option<Stri
     if state != expected {
         return Some(parts(&state, &expected));
     }
-    let (record, expected) = (core.record(), other.record());
-    if record != expected {
-        return Some(first_entry(&record, &expected));
+    for editor in Editor::BOTH {
+        let (record, expected) = (core.record(editor), other.record(editor));
+        if record != expected {
+            return Some(first_entry(editor, &record, &expected));
+        }
     }
     None
 }
@@ -40,16 +42,17 @@ fn parts(core: &State, expected: &State) -> String {
     part!(sound.channels);
     part!(sound.psg);
     part!(interrupts);
+    part!(editing.table);
     parts
 }
 
-/// The first entry of the records that differs, counted from the newest.
-fn first_entry(core: &[(u16, u8)], expected: &[(u16, u8)]) -> String {
+/// The first entry of an editor's records that differs, counted from the newest.
+fn first_entry(editor: Editor, core: &[(u16, u8)], expected: &[(u16, u8)]) -> String {
     let most = core.len().max(expected.len());
     let at = (0..most).find(|&at| core.get(at) != expected.get(at));
     let at = at.unwrap_or(most);
     let (entry, not) = (core.get(at), expected.get(at));
-    format!("core has {entry:02X?} at {at} of the record, not {not:02X?}")
+    format!("core has {entry:02X?} at {at} of the record of {editor:?}, not {not:02X?}")
 }
 
 /// The first byte of a buffer that differs.

@@ -1,8 +1,8 @@
 //! What a script says: phrases of calls that go together.
 
 use super::call::{Call, SPARE};
-use crate::random::{any_accesses, any_list, any_word, Random};
-use plus::{EXPORT, LINE, RAM, STORE, UNLOCK};
+use crate::random::{any_accesses, any_list, any_table, any_word, Random};
+use plus::{Editor, Table, EXPORT, LINE, RAM, STORE, UNLOCK};
 
 /// The addresses around the edges of each block of registers.
 const EDGES: [u16; 24] = [
@@ -13,12 +13,18 @@ const EDGES: [u16; 24] = [
 /// Writes a script's calls.
 pub(super) struct Writer {
     random: Random,
+    /// Who makes most calls of the phrase.
+    editor: Editor,
+    /// What most starts give.
+    table: Table,
     pub(super) calls: Vec<Call>,
 }
 
 impl Writer {
-    pub(super) fn new(random: Random) -> Writer {
+    pub(super) fn new(mut random: Random) -> Writer {
         Writer {
+            editor: random.pick(&Editor::BOTH),
+            table: any_table(&mut random),
             random,
             calls: Vec::new(),
         }
@@ -30,7 +36,10 @@ impl Writer {
 
     /// A phrase: some calls that go together.
     pub(super) fn phrase(&mut self) {
-        match self.random.below(55) {
+        if self.random.chance(4) {
+            self.editor = self.random.pick(&Editor::BOTH);
+        }
+        match self.random.below(56) {
             0..=1 => self.unlock(2),
             2 => self.opening(),
             3..=5 => self.map(),
@@ -48,6 +57,7 @@ impl Writer {
             49..=51 => self.undos(6),
             52 => self.export(),
             53 if self.random.chance(2) => self.editing(),
+            54 => self.start(),
             _ if self.random.chance(3) => self.push(Call::Reset),
             _ => self.opening(),
         }
@@ -159,6 +169,22 @@ impl Writer {
         self.steps(60);
     }
 
+    /// A table, often the same one.
+    fn start(&mut self) {
+        if self.random.chance(3) {
+            self.table = any_table(&mut self.random);
+        }
+        self.push(Call::Start(self.table));
+    }
+
+    /// Who makes a call: mostly the one whose phrase it is.
+    fn editor(&mut self) -> Editor {
+        match self.random.chance(8) {
+            true => self.editor.other(),
+            false => self.editor,
+        }
+    }
+
     /// An address, mostly of a register.
     fn address(&mut self) -> u16 {
         let r = &mut self.random;
@@ -189,8 +215,9 @@ impl Writer {
     }
 
     fn page_write(&mut self, address: u16, byte: u8) {
-        let store = self.length(STORE);
+        let (editor, store) = (self.editor(), self.length(STORE));
         self.push(Call::PageWrite {
+            editor,
             store,
             address,
             byte,
@@ -211,8 +238,8 @@ impl Writer {
 
     fn undos(&mut self, most: u64) {
         for _ in 0..1 + self.random.below(most) {
-            let store = self.length(STORE);
-            self.push(Call::Undo { store });
+            let (editor, store) = (self.editor(), self.length(STORE));
+            self.push(Call::Undo { editor, store });
         }
     }
 
@@ -240,10 +267,11 @@ impl Writer {
 
     fn page_reads(&mut self) {
         for _ in 0..1 + self.random.below(10) {
-            let store = self.length(STORE);
+            let (editor, store) = (self.editor(), self.length(STORE));
             let address = self.address();
             let bus = self.random.byte();
             self.push(Call::PageRead {
+                editor,
                 store,
                 address,
                 bus,
@@ -265,8 +293,8 @@ impl Writer {
         }
     }
 
-    /// Where a list starts: often the same few places, the last word among them.
-    fn start(&mut self) -> u16 {
+    /// Where a list begins: often the same few places, the last word among them.
+    fn list_start(&mut self) -> u16 {
         let r = &mut self.random;
         match r.below(6) {
             0 => r.word(),
@@ -286,7 +314,7 @@ impl Writer {
 
     /// A list put into RAM, forecast, and played on a channel.
     fn play(&mut self) {
-        let start = self.start();
+        let start = self.list_start();
         let mut words = any_list(&mut self.random);
         words.drain(..words.len().saturating_sub(12));
         if self.random.chance(8) {
@@ -307,7 +335,7 @@ impl Writer {
     }
 
     fn forecast(&mut self) {
-        let (start, prescale) = (self.start(), self.random.byte());
+        let (start, prescale) = (self.list_start(), self.random.byte());
         self.forecast_of(start, prescale);
     }
 
@@ -322,10 +350,10 @@ impl Writer {
 
     fn ram_bytes(&mut self) {
         for _ in 0..1 + self.random.below(6) {
-            let start = self.start();
+            let start = self.list_start();
             let word = any_word(&mut self.random);
             self.put_words(start, &[word]);
-            let (address, byte) = (self.start(), self.random.byte());
+            let (address, byte) = (self.list_start(), self.random.byte());
             self.push(Call::Ram { address, byte });
         }
     }

@@ -8,7 +8,7 @@ use super::{differ, Buffers, Call};
 use crate::machine::{Machine, Replay};
 use crate::random::{changed_take, Random};
 use plus::take::{file_of, kind, Noted, Record, Recorder, Take, COUNTS};
-use plus::{Access, Answer, Chip, RAM, STORE};
+use plus::{Access, Answer, Chip, Editor, Table, RAM, STORE};
 
 /// How many takes were played, what they answered, and how often each number
 /// refused a call.
@@ -16,7 +16,7 @@ use plus::{Access, Answer, Chip, RAM, STORE};
 pub struct Tally {
     pub takes: u64,
     pub lines: u64,
-    pub answers: [u64; 15],
+    pub answers: [u64; 16],
     pub counts: [u64; COUNTS],
 }
 
@@ -29,33 +29,57 @@ pub fn sessions<M: Machine>(count: u64, seed: u64) -> Result<Tally, String> {
         if n % 64 == 0 {
             lent = buffers(&mut random);
         }
-        let calls = session(random, &mut lent);
+        let session = Session::new(random, &mut lent);
         let differs = |how| format!("session {n}: {how}");
-        tally.recorded::<M>(&calls, &lent).map_err(differs)?;
-        tally.of_all::<M>(&calls, &lent, n).map_err(differs)?;
+        tally.recorded::<M>(&session, &lent).map_err(differs)?;
+        tally.of_all::<M>(&session, &lent, n).map_err(differs)?;
     }
     Ok(tally)
 }
 
-/// A session from reset: some phrases of calls. What they put into RAM is there
-/// from the start.
-fn session(random: Random, lent: &mut Buffers) -> Vec<Call> {
-    let mut writer = Writer::new(random);
-    writer.opening();
-    while writer.calls.len() < 200 {
-        writer.phrase();
-    }
-    for call in &writer.calls {
-        if let Call::Ram { address, byte } = *call {
-            lent.ram[usize::from(address)] = byte;
+/// A session from reset: some phrases of calls, and the table that their starts
+/// give.
+struct Session {
+    calls: Vec<Call>,
+    table: Table,
+}
+
+impl Session {
+    /// What its calls put into RAM is there from the first of them.
+    fn new(random: Random, lent: &mut Buffers) -> Session {
+        let mut writer = Writer::new(random);
+        writer.opening();
+        while writer.calls.len() < 200 {
+            writer.phrase();
         }
+        for call in &writer.calls {
+            if let Call::Ram { address, byte } = *call {
+                lent.ram[usize::from(address)] = byte;
+            }
+        }
+        let (calls, table) = for_a_take(&writer.calls);
+        Session { calls, table }
     }
-    writer.calls.retain(in_a_take);
-    writer.calls
+}
+
+/// The calls that a take can have or go on after, with the first start's table in
+/// all of them.
+pub fn for_a_take(calls: &[Call]) -> (Vec<Call>, Table) {
+    let given = |call: &Call| match *call {
+        Call::Start(table) => Some(table),
+        _ => None,
+    };
+    let table = calls.iter().find_map(given).unwrap_or_default();
+    let one_table = |&call: &Call| match call {
+        Call::Start(_) => Call::Start(table),
+        call => call,
+    };
+    let calls = calls.iter().filter(|call| in_a_take(call)).map(one_table);
+    (calls.collect(), table)
 }
 
 /// Whether a take can have the call, or go on after it.
-pub fn in_a_take(call: &Call) -> bool {
+fn in_a_take(call: &Call) -> bool {
     !matches!(call, Call::Reset | Call::Ram { .. })
 }
 
@@ -65,17 +89,23 @@ pub fn note(call: Call, recorder: &mut Recorder, lent: &mut Buffers) -> bool {
         Call::WriteBc(byte) => recorder.write_bc(byte),
         Call::WriteBd(byte) => recorder.write_bd(byte),
         Call::Write7f(byte) => recorder.write_7f(byte),
+        Call::Start(table) => recorder.start(table),
         Call::PageWrite {
+            editor,
             store,
             address,
             byte,
-        } => recorder.page_write(&mut lent.store[..store], address, byte),
+        } => recorder.page_write(editor, &mut lent.store[..store], address, byte),
         Call::PageRead {
+            editor,
             store,
             address,
             bus,
-        } => recorder.page_read(&lent.store[..store], address, bus).0,
-        Call::Undo { store } => recorder.undo(&mut lent.store[..store]),
+        } => {
+            let store = &lent.store[..store];
+            recorder.page_read(editor, store, address, bus).0
+        }
+        Call::Undo { editor, store } => recorder.undo(editor, &mut lent.store[..store]),
         Call::Acknowledge => recorder.acknowledge().0,
         Call::Step { ram, accesses } => {
             return recorder.step(&lent.ram[..ram], accesses).0 == Answer::Done
@@ -94,9 +124,21 @@ fn records_of(calls: &[Call]) -> Vec<Record> {
             Call::WriteBc(byte) => (kind::WRITE_BC, 0, byte),
             Call::WriteBd(byte) => (kind::WRITE_BD, 0, byte),
             Call::Write7f(byte) => (kind::WRITE_7F, 0, byte),
-            Call::PageWrite { address, byte, .. } => (kind::PAGE_WRITE, address, byte),
+            Call::Start(_) => (kind::START, 0, 0),
+            Call::PageWrite {
+                editor,
+                address,
+                byte,
+                ..
+            } => match editor {
+                Editor::Song => (kind::PAGE_WRITE, address, byte),
+                Editor::Picture => (kind::PICTURE_WRITE, address, byte),
+            },
             Call::Acknowledge => (kind::ACKNOWLEDGE, 0, 0),
-            Call::Undo { .. } => (kind::UNDO, 0, 0),
+            Call::Undo { editor, .. } => match editor {
+                Editor::Song => (kind::UNDO, 0, 0),
+                Editor::Picture => (kind::PICTURE_UNDO, 0, 0),
+            },
             Call::Step { .. } => {
                 line += 1;
                 continue;
@@ -126,9 +168,9 @@ struct Given<M> {
 }
 
 impl<M: Machine> Given<M> {
-    fn new(ram: &[u8], store: &[u8], file: &[u8]) -> Given<M> {
+    fn new(ram: &[u8], store: &[u8], table: Table, file: &[u8]) -> Given<M> {
         let mut store = store.to_vec();
-        let replay = M::replay(ram, &mut store, file);
+        let replay = M::replay(ram, &mut store, table, file);
         Given { replay, store }
     }
 
@@ -156,15 +198,18 @@ impl<M: Machine> Given<M> {
 impl Tally {
     /// The take that a recorder makes of a session leads to the recorder's chip, and
     /// nothing in it is refused.
-    fn recorded<M: Machine>(&mut self, calls: &[Call], lent: &Buffers) -> Result<(), String> {
+    fn recorded<M: Machine>(&mut self, session: &Session, lent: &Buffers) -> Result<(), String> {
         let (mut recorder, mut after) = (Recorder::new(Noted::Changes), lent.clone());
         let mut lines = 0;
-        for &call in calls {
+        for &call in &session.calls {
             lines += u32::from(note(call, &mut recorder, &mut after));
         }
-        let records = recorder.records().expect("few lines");
+        let records = recorder.records().expect("few lines and one table");
+        let table = recorder.given_table();
+        assert_eq!(table, session.table);
         let file = file_of(b"a session", records).expect("records are good");
-        let mut core = self.play::<M>(&lent.ram[..RAM], &lent.store[..STORE], &file)?;
+        let (ram, store) = (&lent.ram[..RAM], &lent.store[..STORE]);
+        let mut core = self.play::<M>(ram, store, table, &file)?;
 
         // The recorder's last lines have no call behind them.
         for _ in core.replay.lines..lines {
@@ -187,18 +232,23 @@ impl Tally {
 
     /// The take of all calls, and then with a byte changed or with another length of
     /// RAM or store.
-    fn of_all<M: Machine>(&mut self, calls: &[Call], lent: &Buffers, n: u64) -> Result<(), String> {
-        let mut random = Random::new(n);
-        let file = file_of(b"", &records_of(calls)).expect("records are good");
+    fn of_all<M: Machine>(
+        &mut self,
+        session: &Session,
+        lent: &Buffers,
+        n: u64,
+    ) -> Result<(), String> {
+        let (mut random, table) = (Random::new(n), session.table);
+        let file = file_of(b"", &records_of(&session.calls)).expect("records are good");
         let (ram, store) = (&lent.ram[..RAM], &lent.store[..STORE]);
-        self.play::<M>(ram, store, &file)?;
+        self.play::<M>(ram, store, table, &file)?;
         let changed = changed_take(&mut random, &file);
         if random.chance(2) && is_short(&changed) {
-            self.play::<M>(ram, store, &changed)?;
+            self.play::<M>(ram, store, table, &changed)?;
         }
         if random.chance(16) {
-            self.play::<M>(&lent.ram[..RAM - 1], store, &changed)?;
-            self.play::<M>(ram, &lent.store[..STORE + 1], &file)?;
+            self.play::<M>(&lent.ram[..RAM - 1], store, table, &changed)?;
+            self.play::<M>(ram, &lent.store[..STORE + 1], table, &file)?;
         }
         Ok(())
     }
@@ -208,10 +258,11 @@ impl Tally {
         &mut self,
         ram: &[u8],
         store: &[u8],
+        table: Table,
         file: &[u8],
     ) -> Result<Given<Chip>, String> {
-        let core = Given::<Chip>::new(ram, store, file);
-        core.differs(&Given::<M>::new(ram, store, file))?;
+        let core = Given::<Chip>::new(ram, store, table, file);
+        core.differs(&Given::<M>::new(ram, store, table, file))?;
         self.takes += 1;
         self.lines += u64::from(core.replay.lines);
         self.answers[core.replay.answer as usize] += 1;

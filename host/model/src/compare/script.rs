@@ -2,7 +2,7 @@
 
 use super::call::{Buffers, Call, SPARE};
 use super::phrases::Writer;
-use crate::random::{any_state, any_word, Random};
+use crate::random::{any_state, any_table, any_word, held, Random};
 use plus::{State, EXPORT, LINE, RAM, STORE};
 
 /// A state to start from, what is lent, and the calls.
@@ -38,12 +38,16 @@ impl Script {
     }
 }
 
-/// Any state of the widths that document 01 gives, and half of the times whole
-/// words and bytes where the document leaves the width open or nothing but a
-/// comparison reads it. Beyond its width the rest means nothing there: mode, R5,
-/// R12, VC, RC, screen addresses, the split's high byte, coordinates, green.
+/// Any state of the widths that document 01 gives, with a table half of the times,
+/// and half of the times whole words and bytes where the document leaves the width
+/// open or nothing but a comparison reads it. Beyond its width the rest means
+/// nothing there: mode, R5, R12, VC, RC, screen addresses, the split's high byte,
+/// coordinates, green.
 fn any_start(random: &mut Random) -> State {
     let mut state = any_state(random);
+    if random.chance(2) {
+        state.editing.table = held(any_table(random));
+    }
     if random.chance(2) {
         return state;
     }
@@ -56,6 +60,9 @@ fn any_start(random: &mut Random) -> State {
         channel.pause = random.word();
         channel.counter = random.word();
         channel.mark = random.word();
+    }
+    if state.editing.table.held {
+        state.editing.table.channels = random.byte();
     }
     state
 }

@@ -8,7 +8,7 @@ use plus::take::{self, Record, RECORD, TRAILER};
 use std::fmt::Debug;
 
 /// How often a call gave each answer number.
-pub type Answers = [u64; 15];
+pub type Answers = [u64; 16];
 
 /// What was answered to the writer, to opening, and where a record was asked for.
 #[derive(Clone, Copy, Debug, Default)]

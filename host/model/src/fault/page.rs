@@ -1,14 +1,20 @@
 //! Faults of the register page.
 
 use crate::machine::Fault;
-use plus::{Answer, Chip};
+use plus::{Answer, Chip, Editor};
 
 /// The store keeps a pixel's whole byte: only the buffer shows it.
 pub struct WholePixel;
 
 impl Fault for WholePixel {
-    fn page_write(chip: &mut Chip, store: &mut [u8], address: u16, byte: u8) -> Answer {
-        let answer = chip.page_write(store, address, byte);
+    fn page_write(
+        chip: &mut Chip,
+        editor: Editor,
+        store: &mut [u8],
+        address: u16,
+        byte: u8,
+    ) -> Answer {
+        let answer = chip.page_write(editor, store, address, byte);
         if answer == Answer::Done && (0x4000..0x5000).contains(&address) {
             store[address as usize - 0x4000] = byte;
         }
@@ -20,8 +26,14 @@ impl Fault for WholePixel {
 pub struct HighByteOfBits;
 
 impl Fault for HighByteOfBits {
-    fn page_read(chip: &mut Chip, store: &[u8], address: u16, bus: u8) -> (Answer, u8) {
-        match (chip.page_read(store, address, bus), address % 8) {
+    fn page_read(
+        chip: &mut Chip,
+        editor: Editor,
+        store: &[u8],
+        address: u16,
+        bus: u8,
+    ) -> (Answer, u8) {
+        match (chip.page_read(editor, store, address, bus), address % 8) {
             ((Answer::Done, 0xFF), 1) if (0x6000..0x6080).contains(&address) => (Answer::Done, 3),
             (read, _) => read,
         }
@@ -32,9 +44,15 @@ impl Fault for HighByteOfBits {
 pub struct NoMirrors;
 
 impl Fault for NoMirrors {
-    fn page_write(chip: &mut Chip, store: &mut [u8], address: u16, byte: u8) -> Answer {
+    fn page_write(
+        chip: &mut Chip,
+        editor: Editor,
+        store: &mut [u8],
+        address: u16,
+        byte: u8,
+    ) -> Answer {
         let before = chip.clone();
-        let answer = chip.page_write(store, address, byte);
+        let answer = chip.page_write(editor, store, address, byte);
         if answer == Answer::Done && (0x6000..0x6080).contains(&address) && address % 8 > 4 {
             *chip = before;
             return Answer::NothingThere;
@@ -47,8 +65,14 @@ impl Fault for NoMirrors {
 pub struct OneKindOfNothing;
 
 impl Fault for OneKindOfNothing {
-    fn page_write(chip: &mut Chip, store: &mut [u8], address: u16, byte: u8) -> Answer {
-        match chip.page_write(store, address, byte) {
+    fn page_write(
+        chip: &mut Chip,
+        editor: Editor,
+        store: &mut [u8],
+        address: u16,
+        byte: u8,
+    ) -> Answer {
+        match chip.page_write(editor, store, address, byte) {
             Answer::ConverterThere => Answer::NothingThere,
             answer => answer,
         }
@@ -59,8 +83,14 @@ impl Fault for OneKindOfNothing {
 pub struct LengthLast;
 
 impl Fault for LengthLast {
-    fn page_read(chip: &mut Chip, store: &[u8], address: u16, bus: u8) -> (Answer, u8) {
-        match chip.page_read(store, address, bus) {
+    fn page_read(
+        chip: &mut Chip,
+        editor: Editor,
+        store: &[u8],
+        address: u16,
+        bus: u8,
+    ) -> (Answer, u8) {
+        match chip.page_read(editor, store, address, bus) {
             (Answer::WrongLength, _) if !chip.gate.mapped => (Answer::NotMapped, 0),
             read => read,
         }
@@ -71,8 +101,14 @@ impl Fault for LengthLast {
 pub struct PauseEndedByStart;
 
 impl Fault for PauseEndedByStart {
-    fn page_write(chip: &mut Chip, store: &mut [u8], address: u16, byte: u8) -> Answer {
-        let answer = chip.page_write(store, address, byte);
+    fn page_write(
+        chip: &mut Chip,
+        editor: Editor,
+        store: &mut [u8],
+        address: u16,
+        byte: u8,
+    ) -> Answer {
+        let answer = chip.page_write(editor, store, address, byte);
         if answer == Answer::Done && (0x6C00..0x6C0C).contains(&address) && address % 4 < 2 {
             chip.sound.channels[address as usize % 16 / 4].pause = 0;
         }
@@ -84,9 +120,15 @@ impl Fault for PauseEndedByStart {
 pub struct PauseRestartedByDisable;
 
 impl Fault for PauseRestartedByDisable {
-    fn page_write(chip: &mut Chip, store: &mut [u8], address: u16, byte: u8) -> Answer {
+    fn page_write(
+        chip: &mut Chip,
+        editor: Editor,
+        store: &mut [u8],
+        address: u16,
+        byte: u8,
+    ) -> Answer {
         let before = chip.sound.channels;
-        let answer = chip.page_write(store, address, byte);
+        let answer = chip.page_write(editor, store, address, byte);
         for (was, channel) in before.iter().zip(&mut chip.sound.channels) {
             if was.enabled && !channel.enabled {
                 channel.count = 0;

@@ -2,23 +2,24 @@
 
 use crate::by_hand::ByHand;
 use crate::machine::Fault;
-use plus::take::{open, record_at, replay, Record, Replayed, Take};
-use plus::{Access, Answer, Chip};
+use plus::take::{kind, open, record_at, replay, Record, Replayed, Take};
+use plus::{Access, Answer, Chip, Table};
 
 /// Plays a take that is served by other rules, from a chip after reset.
 fn played_by(
     ram: &[u8],
     store: &mut [u8],
+    table: Table,
     file: &[u8],
     play: impl FnOnce(&mut ByHand<Chip>, &mut dyn Iterator<Item = Record>),
 ) -> Replayed {
     // Where it is refused nothing is played but this.
-    let refused = replay(ram, &mut store.to_vec(), file);
+    let refused = replay(ram, &mut store.to_vec(), table, file);
     let Ok(served) = refused.clone().served() else {
         return refused;
     };
     let take = Take::open(file).expect("a take that is played");
-    let mut by_hand = ByHand::new(ram, store);
+    let mut by_hand = ByHand::new(ram, store, table);
     play(&mut by_hand, &mut take.records());
     let end = by_hand.end();
     Replayed {
@@ -33,8 +34,8 @@ fn played_by(
 pub struct LinesAfterTheCall;
 
 impl Fault for LinesAfterTheCall {
-    fn replay(ram: &[u8], store: &mut [u8], file: &[u8]) -> Replayed {
-        played_by(ram, store, file, |by_hand, records| {
+    fn replay(ram: &[u8], store: &mut [u8], table: Table, file: &[u8]) -> Replayed {
+        played_by(ram, store, table, file, |by_hand, records| {
             for record in records {
                 let answer = by_hand.call(record);
                 by_hand.count(answer);
@@ -48,8 +49,8 @@ impl Fault for LinesAfterTheCall {
 pub struct RefusedCallEnds;
 
 impl Fault for RefusedCallEnds {
-    fn replay(ram: &[u8], store: &mut [u8], file: &[u8]) -> Replayed {
-        played_by(ram, store, file, |by_hand, records| {
+    fn replay(ram: &[u8], store: &mut [u8], table: Table, file: &[u8]) -> Replayed {
+        played_by(ram, store, table, file, |by_hand, records| {
             for record in records {
                 by_hand.play(record);
                 if by_hand.counts.iter().any(|&count| count != 0) {
@@ -64,8 +65,8 @@ impl Fault for RefusedCallEnds {
 pub struct RefusedNotCounted;
 
 impl Fault for RefusedNotCounted {
-    fn replay(ram: &[u8], store: &mut [u8], file: &[u8]) -> Replayed {
-        let mut replayed = replay(ram, store, file);
+    fn replay(ram: &[u8], store: &mut [u8], table: Table, file: &[u8]) -> Replayed {
+        let mut replayed = replay(ram, store, table, file);
         replayed.counts.fill(0);
         replayed
     }
@@ -75,8 +76,8 @@ impl Fault for RefusedNotCounted {
 pub struct CountedTogether;
 
 impl Fault for CountedTogether {
-    fn replay(ram: &[u8], store: &mut [u8], file: &[u8]) -> Replayed {
-        let mut replayed = replay(ram, store, file);
+    fn replay(ram: &[u8], store: &mut [u8], table: Table, file: &[u8]) -> Replayed {
+        let mut replayed = replay(ram, store, table, file);
         let sum = replayed.counts.iter().sum();
         replayed.counts.fill(0);
         replayed.counts[Answer::NothingThere as usize] = sum;
@@ -88,8 +89,8 @@ impl Fault for CountedTogether {
 pub struct NotFromReset;
 
 impl Fault for NotFromReset {
-    fn replay(ram: &[u8], store: &mut [u8], file: &[u8]) -> Replayed {
-        played_by(ram, store, file, |by_hand, records| {
+    fn replay(ram: &[u8], store: &mut [u8], table: Table, file: &[u8]) -> Replayed {
+        played_by(ram, store, table, file, |by_hand, records| {
             by_hand.chip.lock.unlocked = true;
             records.for_each(|record| by_hand.play(record));
         })
@@ -100,8 +101,8 @@ impl Fault for NotFromReset {
 pub struct FirstRecordSkipped;
 
 impl Fault for FirstRecordSkipped {
-    fn replay(ram: &[u8], store: &mut [u8], file: &[u8]) -> Replayed {
-        played_by(ram, store, file, |by_hand, records| {
+    fn replay(ram: &[u8], store: &mut [u8], table: Table, file: &[u8]) -> Replayed {
+        played_by(ram, store, table, file, |by_hand, records| {
             records.skip(1).for_each(|record| by_hand.play(record));
         })
     }
@@ -111,8 +112,8 @@ impl Fault for FirstRecordSkipped {
 pub struct OneLineMore;
 
 impl Fault for OneLineMore {
-    fn replay(ram: &[u8], store: &mut [u8], file: &[u8]) -> Replayed {
-        played_by(ram, store, file, |by_hand, records| {
+    fn replay(ram: &[u8], store: &mut [u8], table: Table, file: &[u8]) -> Replayed {
+        played_by(ram, store, table, file, |by_hand, records| {
             for record in records {
                 if by_hand.lines < record.line {
                     let _ = by_hand.chip.step(ram, [Access::Off; 3]);
@@ -127,8 +128,8 @@ impl Fault for OneLineMore {
 pub struct NoLinesInModeThree;
 
 impl Fault for NoLinesInModeThree {
-    fn replay(ram: &[u8], store: &mut [u8], file: &[u8]) -> Replayed {
-        played_by(ram, store, file, |by_hand, records| {
+    fn replay(ram: &[u8], store: &mut [u8], table: Table, file: &[u8]) -> Replayed {
+        played_by(ram, store, table, file, |by_hand, records| {
             for record in records {
                 if by_hand.chip.gate.mode == 3 {
                     by_hand.lines = record.line;
@@ -143,8 +144,8 @@ impl Fault for NoLinesInModeThree {
 pub struct TakeBeforeLengths;
 
 impl Fault for TakeBeforeLengths {
-    fn replay(ram: &[u8], store: &mut [u8], file: &[u8]) -> Replayed {
-        let mut replayed = replay(ram, store, file);
+    fn replay(ram: &[u8], store: &mut [u8], table: Table, file: &[u8]) -> Replayed {
+        let mut replayed = replay(ram, store, table, file);
         let opened = open(file);
         if opened.answer != Answer::Done {
             (replayed.answer, replayed.bad) = (opened.answer, opened.bad);
@@ -157,12 +158,12 @@ impl Fault for TakeBeforeLengths {
 pub struct PlayedUpToBad;
 
 impl Fault for PlayedUpToBad {
-    fn replay(ram: &[u8], store: &mut [u8], file: &[u8]) -> Replayed {
-        let refused = replay(ram, store, file);
+    fn replay(ram: &[u8], store: &mut [u8], table: Table, file: &[u8]) -> Replayed {
+        let refused = replay(ram, store, table, file);
         if refused.answer != Answer::BadRecord {
             return refused;
         }
-        let mut by_hand = ByHand::<Chip>::new(ram, store);
+        let mut by_hand = ByHand::<Chip>::new(ram, store, table);
         for number in 1..refused.bad {
             by_hand.play(record_at(file, number).record);
         }
@@ -170,5 +171,57 @@ impl Fault for PlayedUpToBad {
             chip: by_hand.end().chip,
             ..refused
         }
+    }
+}
+
+/// A take played with each record made anew.
+fn played_anew(
+    ram: &[u8],
+    store: &mut [u8],
+    table: Table,
+    file: &[u8],
+    anew: impl Fn(Record) -> Record,
+) -> Replayed {
+    played_by(ram, store, table, file, |by_hand, records| {
+        records.for_each(|record| by_hand.play(anew(record)));
+    })
+}
+
+/// Kind 8 takes back the song editor's newest write.
+pub struct PictureUndoOfSong;
+
+impl Fault for PictureUndoOfSong {
+    fn replay(ram: &[u8], store: &mut [u8], table: Table, file: &[u8]) -> Replayed {
+        played_anew(ram, store, table, file, |record| match record.kind {
+            kind::PICTURE_UNDO => Record {
+                kind: kind::UNDO,
+                ..record
+            },
+            _ => record,
+        })
+    }
+}
+
+/// Kind 7 is a write of the song editor.
+pub struct PictureWriteOfSong;
+
+impl Fault for PictureWriteOfSong {
+    fn replay(ram: &[u8], store: &mut [u8], table: Table, file: &[u8]) -> Replayed {
+        played_anew(ram, store, table, file, |record| match record.kind {
+            kind::PICTURE_WRITE => Record {
+                kind: kind::PAGE_WRITE,
+                ..record
+            },
+            _ => record,
+        })
+    }
+}
+
+/// Every start of a take gives the song editor everything.
+pub struct TableNotLent;
+
+impl Fault for TableNotLent {
+    fn replay(ram: &[u8], store: &mut [u8], _: Table, file: &[u8]) -> Replayed {
+        replay(ram, store, Table::default(), file)
     }
 }

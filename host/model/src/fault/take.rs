@@ -84,9 +84,9 @@ accepts! {
         _ => record,
     };
 
-    /// A record of kind 7 is good.
-    Kind7Accepted: |_, record| match record.kind {
-        7 => Record { kind: 4, ..record },
+    /// A record of kind 10 is good.
+    Kind10Accepted: |_, record| match record.kind {
+        10 => Record { kind: 4, ..record },
         _ => record,
     };
 
@@ -98,7 +98,19 @@ accepts! {
 
     /// An undo may have a value.
     UndoWithValue: |_, record| match record.kind {
-        6 => Record { value: 0, ..record },
+        6 | 8 => Record { value: 0, ..record },
+        _ => record,
+    };
+
+    /// A start may have a value.
+    StartWithValue: |_, record| match record.kind {
+        9 => Record { value: 0, ..record },
+        _ => record,
+    };
+
+    /// A start may have an address.
+    StartWithAddress: |_, record| match record.kind {
+        9 => Record { address: 0, ..record },
         _ => record,
     };
 
@@ -433,6 +445,26 @@ impl Fault for NoRecordsThoughMet {
                 record: Record::default(),
             },
             _ => record_at(file, number),
+        }
+    }
+}
+
+/// Only the song editor's page write has an address.
+pub struct PictureWriteWithoutAddress;
+
+impl Fault for PictureWriteWithoutAddress {
+    fn take_write(comment: &[u8], records: &[u64], output: &mut [u8]) -> Written {
+        let bad = |&number: &u64| {
+            let record = unpack(number);
+            record.kind == 7 && record.address != 0
+        };
+        match records.iter().position(bad) {
+            Some(before) => Written {
+                answer: Answer::BadRecord,
+                size: 0,
+                bad: before + 1,
+            },
+            None => write(comment, records, output),
         }
     }
 }

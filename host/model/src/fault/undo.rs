@@ -1,24 +1,26 @@
-//! Faults of the record and of undo.
+//! Faults of the records and of undo.
 
 use crate::machine::Fault;
-use plus::{Answer, Chip, State, STORE};
+use plus::{Answer, Chip, Editor, State, STORE};
 
-/// Puts an entry more into the record: a palette byte written as it is.
-fn keep_another(chip: &mut Chip) {
-    let (mapped, byte) = (chip.gate.mapped, chip.palette[0]);
-    chip.gate.mapped = true;
-    let _ = chip.page_write(&mut [0; STORE], 0x6400, byte);
-    chip.gate.mapped = mapped;
+/// Puts an entry more into an editor's record: a palette byte written as it is.
+fn keep_another(chip: &mut Chip, editor: Editor) {
+    let (mapped, held) = (chip.gate.mapped, chip.editing.table.held);
+    let byte = chip.palette[0];
+    (chip.gate.mapped, chip.editing.table.held) = (true, false);
+    let _ = chip.page_write(editor, &mut [0; STORE], 0x6400, byte);
+    (chip.gate.mapped, chip.editing.table.held) = (mapped, held);
 }
 
 /// An undo, and then something more at the address of what it took back.
 fn undone_and(
     chip: &mut Chip,
+    editor: Editor,
     store: &mut [u8],
     more: impl FnOnce(&mut State, &mut [u8], usize),
 ) -> Answer {
-    let newest = chip.record().next();
-    let answer = chip.undo(store);
+    let newest = chip.record(editor).next();
+    let answer = chip.undo(editor, store);
     if let (Answer::Done, Some((address, _))) = (answer, newest) {
         more(chip, store, address.into());
     }
@@ -29,10 +31,16 @@ fn undone_and(
 pub struct DcsrKept;
 
 impl Fault for DcsrKept {
-    fn page_write(chip: &mut Chip, store: &mut [u8], address: u16, byte: u8) -> Answer {
-        let answer = chip.page_write(store, address, byte);
+    fn page_write(
+        chip: &mut Chip,
+        editor: Editor,
+        store: &mut [u8],
+        address: u16,
+        byte: u8,
+    ) -> Answer {
+        let answer = chip.page_write(editor, store, address, byte);
         if answer == Answer::Done && address == 0x6C0F {
-            keep_another(chip);
+            keep_another(chip, editor);
         }
         answer
     }
@@ -42,10 +50,16 @@ impl Fault for DcsrKept {
 pub struct RefusedKept;
 
 impl Fault for RefusedKept {
-    fn page_write(chip: &mut Chip, store: &mut [u8], address: u16, byte: u8) -> Answer {
-        let answer = chip.page_write(store, address, byte);
+    fn page_write(
+        chip: &mut Chip,
+        editor: Editor,
+        store: &mut [u8],
+        address: u16,
+        byte: u8,
+    ) -> Answer {
+        let answer = chip.page_write(editor, store, address, byte);
         if answer != Answer::Done {
-            keep_another(chip);
+            keep_another(chip, editor);
         }
         answer
     }
@@ -55,9 +69,15 @@ impl Fault for RefusedKept {
 pub struct SameNotKept;
 
 impl Fault for SameNotKept {
-    fn page_write(chip: &mut Chip, store: &mut [u8], address: u16, byte: u8) -> Answer {
+    fn page_write(
+        chip: &mut Chip,
+        editor: Editor,
+        store: &mut [u8],
+        address: u16,
+        byte: u8,
+    ) -> Answer {
         let (before, pixels) = (**chip, store.to_vec());
-        let answer = chip.page_write(store, address, byte);
+        let answer = chip.page_write(editor, store, address, byte);
         let editing = chip.editing;
         chip.editing = before.editing;
         if **chip != before || store != pixels {
@@ -71,21 +91,30 @@ impl Fault for SameNotKept {
 pub struct RecordOf255;
 
 impl Fault for RecordOf255 {
-    fn page_write(chip: &mut Chip, store: &mut [u8], address: u16, byte: u8) -> Answer {
-        let answer = chip.page_write(store, address, byte);
-        chip.editing.undo.count = chip.editing.undo.count.min(255);
+    fn page_write(
+        chip: &mut Chip,
+        editor: Editor,
+        store: &mut [u8],
+        address: u16,
+        byte: u8,
+    ) -> Answer {
+        let answer = chip.page_write(editor, store, address, byte);
+        let editing = &mut chip.editing;
+        for record in [&mut editing.song, &mut editing.picture] {
+            record.count = record.count.min(255);
+        }
         answer
     }
 }
 
-/// A reset leaves the record.
+/// A reset leaves the records.
 pub struct RecordThroughReset;
 
 impl Fault for RecordThroughReset {
     fn reset(chip: &mut Chip) {
         let editing = chip.editing;
         chip.reset();
-        chip.editing = editing;
+        (chip.editing.song, chip.editing.picture) = (editing.song, editing.picture);
     }
 }
 
@@ -93,9 +122,9 @@ impl Fault for RecordThroughReset {
 pub struct WrittenByteBack;
 
 impl Fault for WrittenByteBack {
-    fn undo(chip: &mut Chip, store: &mut [u8]) -> Answer {
+    fn undo(chip: &mut Chip, editor: Editor, store: &mut [u8]) -> Answer {
         let (before, pixels) = (**chip, store.to_vec());
-        let answer = chip.undo(store);
+        let answer = chip.undo(editor, store);
         let editing = chip.editing;
         **chip = State { editing, ..before };
         store.copy_from_slice(&pixels);
@@ -107,8 +136,8 @@ impl Fault for WrittenByteBack {
 pub struct PixelBackBy4Bits;
 
 impl Fault for PixelBackBy4Bits {
-    fn undo(chip: &mut Chip, store: &mut [u8]) -> Answer {
-        undone_and(chip, store, |_, store, address| {
+    fn undo(chip: &mut Chip, editor: Editor, store: &mut [u8]) -> Answer {
+        undone_and(chip, editor, store, |_, store, address| {
             if let 0x4000..=0x4FFF = address {
                 store[address - 0x4000] &= 0x0F;
             }
@@ -120,8 +149,8 @@ impl Fault for PixelBackBy4Bits {
 pub struct OtherByteToo;
 
 impl Fault for OtherByteToo {
-    fn undo(chip: &mut Chip, store: &mut [u8]) -> Answer {
-        undone_and(chip, store, |state, _, address| {
+    fn undo(chip: &mut Chip, editor: Editor, store: &mut [u8]) -> Answer {
+        undone_and(chip, editor, store, |state, _, address| {
             if let 0x6C00..=0x6C0B = address {
                 let channel = &mut state.sound.channels[(address - 0x6C00) / 4];
                 channel.address &= [0x00FF, 0xFF00, 0xFFFF, 0xFFFF][address % 4];
@@ -134,8 +163,8 @@ impl Fault for OtherByteToo {
 pub struct CapturedSplitBack;
 
 impl Fault for CapturedSplitBack {
-    fn undo(chip: &mut Chip, store: &mut [u8]) -> Answer {
-        undone_and(chip, store, |state, _, address| {
+    fn undo(chip: &mut Chip, editor: Editor, store: &mut [u8]) -> Answer {
+        undone_and(chip, editor, store, |state, _, address| {
             let (video, counters) = (state.video, &mut state.crtc.counters);
             if counters.held && (0x6802..=0x6803).contains(&address) {
                 counters.split = u16::from_le_bytes([video.split_low, video.split_high]);
@@ -148,8 +177,8 @@ impl Fault for CapturedSplitBack {
 pub struct EmptyServed;
 
 impl Fault for EmptyServed {
-    fn undo(chip: &mut Chip, store: &mut [u8]) -> Answer {
-        match chip.undo(store) {
+    fn undo(chip: &mut Chip, editor: Editor, store: &mut [u8]) -> Answer {
+        match chip.undo(editor, store) {
             Answer::NothingToUndo => Answer::Done,
             answer => answer,
         }
@@ -160,9 +189,9 @@ impl Fault for EmptyServed {
 pub struct EmptyFirst;
 
 impl Fault for EmptyFirst {
-    fn undo(chip: &mut Chip, store: &mut [u8]) -> Answer {
-        match chip.undo(store) {
-            Answer::WrongLength if chip.editing.undo.count == 0 => Answer::NothingToUndo,
+    fn undo(chip: &mut Chip, editor: Editor, store: &mut [u8]) -> Answer {
+        match chip.undo(editor, store) {
+            Answer::WrongLength if chip.record(editor).next().is_none() => Answer::NothingToUndo,
             answer => answer,
         }
     }
@@ -172,9 +201,9 @@ impl Fault for EmptyFirst {
 pub struct UndoWhereMapped;
 
 impl Fault for UndoWhereMapped {
-    fn undo(chip: &mut Chip, store: &mut [u8]) -> Answer {
+    fn undo(chip: &mut Chip, editor: Editor, store: &mut [u8]) -> Answer {
         match chip.gate.mapped {
-            true => chip.undo(store),
+            true => chip.undo(editor, store),
             false => Answer::NotMapped,
         }
     }
@@ -184,9 +213,9 @@ impl Fault for UndoWhereMapped {
 pub struct UndoWhereUnlocked;
 
 impl Fault for UndoWhereUnlocked {
-    fn undo(chip: &mut Chip, store: &mut [u8]) -> Answer {
+    fn undo(chip: &mut Chip, editor: Editor, store: &mut [u8]) -> Answer {
         match chip.lock.unlocked {
-            true => chip.undo(store),
+            true => chip.undo(editor, store),
             false => Answer::NotMapped,
         }
     }

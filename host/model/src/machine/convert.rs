@@ -1,9 +1,9 @@
 //! The model's state as the core's, and back: structs of the same names and
-//! fields, and a take's record like them. The model's record of page writes is a
-//! list and no part of the state.
+//! fields, and a take's record like them. The model's records of page writes are
+//! lists and no part of the state.
 
 use crate::chip::{self, Model};
-use plus::{Editing, State};
+use plus::{Editing, Held, State};
 
 /// The core's structs in one place.
 mod proved {
@@ -41,6 +41,47 @@ same! {
     Channel { enabled, interrupt, address, prescale, pause, count, counter, mark }
     Interrupts { raster, last_raster, ivr }
     Record { line, kind, address, value }
+    Table { palette, sprites, channels }
+}
+
+impl From<plus::Editor> for chip::Editor {
+    fn from(core: plus::Editor) -> chip::Editor {
+        match core {
+            plus::Editor::Song => chip::Editor::Song,
+            plus::Editor::Picture => chip::Editor::Picture,
+        }
+    }
+}
+
+/// The table that holds, and none as the chip has it then.
+fn held(table: Option<chip::Table>) -> Held {
+    match table {
+        None => Held::default(),
+        Some(chip::Table {
+            palette,
+            sprites,
+            channels,
+        }) => Held {
+            held: true,
+            channels,
+            sprites,
+            palette,
+        },
+    }
+}
+
+fn holding(held: Held) -> Option<chip::Table> {
+    let Held {
+        channels,
+        sprites,
+        palette,
+        ..
+    } = held;
+    held.held.then_some(chip::Table {
+        palette,
+        sprites,
+        channels,
+    })
 }
 
 impl From<plus::Access> for chip::Access {
@@ -82,7 +123,10 @@ impl From<&Model> for State {
             palette: model.palette,
             sound: model.sound.into(),
             interrupts: model.interrupts.into(),
-            editing: Editing::default(),
+            editing: Editing {
+                table: held(model.table),
+                ..Editing::default()
+            },
         }
     }
 }
@@ -98,6 +142,7 @@ impl From<State> for Model {
         model.palette = state.palette;
         model.sound = state.sound.into();
         model.interrupts = state.interrupts.into();
+        model.table = holding(state.editing.table);
         model
     }
 }

@@ -3,6 +3,7 @@
 use crate::kept;
 use model::under_test::UnderTest;
 use model::{held, Machine};
+use plus::Editor::Song;
 use plus::{EXPORT, RAM, STORE};
 
 /// An export in which each register holds what it is given for its address.
@@ -35,10 +36,10 @@ fn the_bits_that_each_register_keeps<M: Machine>() {
         for address in kept::exported() {
             chip.poke(address, byte(address));
         }
-        let (state, record) = (chip.state(), chip.record());
+        let (state, record) = (chip.state(), chip.record(Song));
         let expected = of_each(|address| byte(address) & kept::bits(address).unwrap());
         assert_eq!(chip.exported()[..], expected);
-        assert_eq!((chip.state(), chip.record()), (state, record));
+        assert_eq!((chip.state(), chip.record(Song)), (state, record));
     }
 }
 

@@ -6,6 +6,7 @@
 #![deny(dead_code)]
 
 mod drawing;
+mod editors;
 mod export;
 mod forecast;
 mod interrupts;

@@ -4,6 +4,7 @@
 use model::random::{any_state, Random};
 use model::under_test::UnderTest;
 use model::{held, Machine};
+use plus::Editor::Song;
 use plus::{Answer, RAM, STORE};
 
 /// What a write answers where the page is mapped.
@@ -48,7 +49,7 @@ fn every_address_can_be_written_or_not<M: Machine>() {
     let (before, mut store) = (chip.state(), lent);
     let mut served = 0;
     for address in 0x4000..=0x7FFF {
-        let answer = chip.page_write(&mut store, address, 0xA5);
+        let answer = chip.page_write(Song, &mut store, address, 0xA5);
         assert_eq!(answer, written(address), "{address:04X}");
         if answer == 0 {
             served += 1;
@@ -67,7 +68,7 @@ fn every_address_can_be_read_or_gives_the_bus_byte<M: Machine>() {
     let (mut chip, store) = mapped::<M>();
     let before = chip.state();
     for address in 0x4000..=0x7FFF {
-        let read = [0x00, 0x5A, 0xFF].map(|bus| chip.page_read(&store, address, bus));
+        let read = [0x00, 0x5A, 0xFF].map(|bus| chip.page_read(Song, &store, address, bus));
         if readable(address) {
             assert_eq!(read, [(Answer::Done, read[0].1); 3], "{address:04X}");
         } else {
@@ -87,15 +88,21 @@ fn outside_the_page_is_refused<M: Machine>() {
     let mut store = [0x77; STORE];
     for address in [0x0000, 0x3FFF, 0x8000, 0xC000, 0xFFFF] {
         assert_eq!(
-            chip.page_read(&store, address, 0x5A),
+            chip.page_read(Song, &store, address, 0x5A),
             (Answer::NotMapped, 0)
         );
-        assert_eq!(chip.page_write(&mut store, address, 1), 2);
+        assert_eq!(chip.page_write(Song, &mut store, address, 1), 2);
     }
     assert_eq!(store, [0x77; STORE]);
-    assert_eq!(chip.page_read(&store, 0x4000, 0x5A), (Answer::Done, 0x07));
-    assert_eq!(chip.page_read(&store, 0x7FFF, 0x5A), (Answer::Done, 0x5A));
-    assert_eq!(chip.page_write(&mut store, 0x7FFF, 1), 3);
+    assert_eq!(
+        chip.page_read(Song, &store, 0x4000, 0x5A),
+        (Answer::Done, 0x07)
+    );
+    assert_eq!(
+        chip.page_read(Song, &store, 0x7FFF, 0x5A),
+        (Answer::Done, 0x5A)
+    );
+    assert_eq!(chip.page_write(Song, &mut store, 0x7FFF, 1), 3);
 }
 
 // Where nothing is, and outside the page, too.
@@ -110,10 +117,10 @@ fn a_page_that_is_not_mapped_is_refused<M: Machine>() {
             0x3FFF, 0x4000, 0x5000, 0x6000, 0x6808, 0x6C0F, 0x7FFF, 0x8000,
         ] {
             assert_eq!(
-                chip.page_read(&store, address, 0x5A),
+                chip.page_read(Song, &store, address, 0x5A),
                 (Answer::NotMapped, 0)
             );
-            assert_eq!(chip.page_write(&mut store, address, 1), 2);
+            assert_eq!(chip.page_write(Song, &mut store, address, 1), 2);
         }
         assert_eq!(chip.state(), before);
         assert_eq!(store, [0x77; STORE]);
@@ -131,10 +138,10 @@ fn a_length_is_refused_first<M: Machine>() {
             let mut store = vec![0x33; length];
             for address in [0x3FFF, 0x4000, 0x5000, 0x6800, 0x7FFF, 0x8000] {
                 assert_eq!(
-                    chip.page_read(&store, address, 0x5A),
+                    chip.page_read(Song, &store, address, 0x5A),
                     (Answer::WrongLength, 0)
                 );
-                assert_eq!(chip.page_write(&mut store, address, 0xFF), 1);
+                assert_eq!(chip.page_write(Song, &mut store, address, 0xFF), 1);
             }
             assert_eq!(store, vec![0x33; length]);
         }
@@ -149,7 +156,10 @@ fn pixels_are_stored_and_read_by_4_bits<M: Machine>() {
     let mut store = [0x77; STORE];
     for place in 0..STORE {
         let byte = (place * 7) as u8;
-        assert_eq!(chip.page_write(&mut store, 0x4000 + place as u16, byte), 0);
+        assert_eq!(
+            chip.page_write(Song, &mut store, 0x4000 + place as u16, byte),
+            0
+        );
         assert_eq!(store[place], byte & 0x0F);
         assert!(store[place + 1..].iter().all(|&other| other == 0x77));
     }
@@ -157,7 +167,7 @@ fn pixels_are_stored_and_read_by_4_bits<M: Machine>() {
         let pixel = (place * 7) as u8 & 0x0F;
         assert_eq!(store[place], pixel);
         store[place] |= 0xC0;
-        let read = chip.page_read(&store, 0x4000 + place as u16, 0xFF);
+        let read = chip.page_read(Song, &store, 0x4000 + place as u16, 0xFF);
         assert_eq!(read, (Answer::Done, pixel));
     }
     assert_eq!(chip.state(), before);

@@ -2,6 +2,7 @@
 
 use model::under_test::UnderTest;
 use model::{held, Machine};
+use plus::Editor::Song;
 use plus::STORE;
 
 /// A sprite's X and Y.
@@ -152,7 +153,7 @@ fn converters_read_0<M: Machine>() {
     let mut chip = M::open();
     for address in 0x6808..=0x680F {
         assert_eq!(chip.peek(address, 0x5A), 0);
-        assert_eq!(chip.page_write(&mut [0; STORE], address, 0xFF), 9);
+        assert_eq!(chip.page_write(Song, &mut [0; STORE], address, 0xFF), 9);
         assert_eq!(chip.peek(address, 0x5A), 0);
     }
 }

@@ -3,17 +3,20 @@
 use crate::played::{off, Played};
 use model::by_hand::ByHand;
 use model::machine::Replay;
-use model::random::Random;
+use model::random::{any_table, Random};
 use model::under_test::ram_with;
 use model::{held, Machine};
 use plus::take::{file_of, kind, Record, COUNTS, RECORD, TRAILER};
-use plus::{Answer, RAM, STORE, UNLOCK};
+use plus::Editor::{self, Picture, Song};
+use plus::{Answer, Table, RAM, STORE, UNLOCK};
 
 /// A take being written, line by line.
 #[derive(Clone, Default)]
 struct Writing {
     line: u32,
     records: Vec<Record>,
+    /// What its starts give.
+    table: Table,
 }
 
 impl Writing {
@@ -65,6 +68,18 @@ impl Writing {
         self.record(kind::UNDO, 0, 0)
     }
 
+    fn picture(self, address: u16, value: u8) -> Writing {
+        self.record(kind::PICTURE_WRITE, address, value)
+    }
+
+    fn picture_undo(self) -> Writing {
+        self.record(kind::PICTURE_UNDO, 0, 0)
+    }
+
+    fn start(self) -> Writing {
+        self.record(kind::START, 0, 0)
+    }
+
     /// Rows of 8 lines, 39 of them.
     fn framed(self) -> Writing {
         self.bc(9).bd(7).bc(4).bd(38)
@@ -80,7 +95,7 @@ impl Writing {
     }
 
     fn played_on<M: Machine>(&self, ram: &[u8], store: &mut [u8]) -> Replay<M> {
-        let replay = M::replay(ram, store, &self.file());
+        let replay = M::replay(ram, store, self.table, &self.file());
         assert_eq!((replay.answer, replay.bad), (Answer::Done, 0));
         replay
     }
@@ -100,7 +115,9 @@ fn a_take_of_nothing_is_the_chip_after_reset<M: Machine>() {
     let mut store = vec![0xA5; STORE];
     let replay: Replay<M> = Writing::default().played_on(&[0; RAM], &mut store);
     assert_eq!(replay.chip.state(), M::new().state());
-    assert_eq!(replay.chip.record(), []);
+    for editor in Editor::BOTH {
+        assert_eq!(replay.chip.record(editor), []);
+    }
     assert_eq!((replay.lines, replay.counts), (0, counted(&[])));
     assert_eq!(store, vec![0xA5; STORE]);
 }
@@ -128,11 +145,52 @@ fn each_kind_is_its_call<M: Machine>() {
     assert_eq!(store[0x123], 0x0C);
     assert_eq!(chip.state().sound.channels[0].prescale, 0);
     // The newest first: a pixel that was 0, and IVR, which is 1 after reset.
-    assert_eq!(chip.record(), [(0x4123, 0), (0x6805, 1)]);
+    assert_eq!(chip.record(Song), [(0x4123, 0), (0x6805, 1)]);
 
     let replay = take.on(1).acknowledge().played_on::<M>(&ram, &mut store);
     assert!(!replay.chip.state().sound.channels[0].interrupt);
     assert_eq!(replay.counts, counted(&[]));
+}
+
+// 02, L9: 7 and 8 are the second editor's 4 and 6, and 9 is the start, with the
+// table that is lent. A 15 is counted at its place.
+held!(the_second_editors_kinds_and_the_start,
+    fails_with PictureUndoOfSong, PictureWriteOfSong, TableNotLent);
+fn the_second_editors_kinds_and_the_start<M: Machine>() {
+    // Sprite 1 and channel 2 are the picture editor's, and so is PRI.
+    let mut take = Writing::mapped()
+        .page(0x6400, 0x11)
+        .start()
+        .picture(0x6008, 0x21) // sprite 1
+        .picture(0x6C0A, 3) // channel 2
+        .picture(0x6000, 0x22) // 15: sprite 0
+        .page(0x6000, 0x23)
+        .page(0x6008, 0x24) // 15
+        .page(0x6800, 0x25) // 15
+        .page(0x6805, 0x26) // 15
+        .picture(0x6805, 0x27) // 15
+        .picture(0x6808, 0x28) // 9
+        .picture_undo();
+    take.table = Table {
+        palette: 0,
+        sprites: 2,
+        channels: 0b1111_1100,
+    };
+    let replay: Replay<M> = take.played();
+    let state = replay.chip.state();
+    let table = state.editing.table;
+    assert_eq!((table.held, table.palette, table.sprites), (true, 0, 2));
+    assert_eq!(table.channels, 0b100);
+    assert_eq!((state.sprites[0].x, state.sprites[1].x), (0x23, 0x21));
+    assert_eq!((state.palette[0], state.interrupts.ivr), (0x11, 0x01));
+    assert_eq!(state.sound.channels[2].prescale, 0);
+    // The write before the start is not among those left.
+    assert_eq!(replay.chip.record(Song), [(0x6000, 0)]);
+    assert_eq!(replay.chip.record(Picture), [(0x6008, 0)]);
+    assert_eq!(replay.counts, counted(&[(9, 1), (15, 5)]));
+    let replay: Replay<M> = take.picture_undo().picture_undo().undo().start().played();
+    assert_eq!(replay.counts, counted(&[(9, 1), (10, 1), (15, 5)]));
+    assert_eq!(replay.chip.record(Song), []);
 }
 
 held!(lines_come_before_the_call, fails_with LinesAfterTheCall, OneLineMore);
@@ -207,7 +265,7 @@ fn refused_calls_are_counted_and_passed_over<M: Machine>() {
     let expected = counted(&[(2, 1), (3, 3), (5, 1), (9, 2), (10, 1)]);
     assert_eq!((replay.lines, replay.counts), (4, expected));
     assert_eq!(replay.chip.state().video.pri, 77);
-    assert_eq!(replay.chip.record(), [(0x6800, 0)]);
+    assert_eq!(replay.chip.record(Song), [(0x6800, 0)]);
 }
 
 held!(many_refusals_are_counted);
@@ -226,9 +284,9 @@ fn no_more_than_256_writes_are_left<M: Machine>() {
     for (count, left) in [(255, 255), (256, 256), (300, 256)] {
         let mut store = vec![0x77; STORE];
         let replay: Replay<M> = writes(count).undo().played_on(&[0; RAM], &mut store);
-        assert_eq!(replay.chip.record().len(), left - 1);
+        assert_eq!(replay.chip.record(Song).len(), left - 1);
         let newest = (0x4000 + count as u16 - 2, 0x77);
-        assert_eq!(replay.chip.record()[0], newest);
+        assert_eq!(replay.chip.record(Song)[0], newest);
         assert_eq!(store[count as usize - 1], 0x77);
     }
 }
@@ -237,11 +295,13 @@ fn no_more_than_256_writes_are_left<M: Machine>() {
 /// and no byte of the store another.
 fn is_refused<M: Machine>(ram: &[u8], store: usize, file: &[u8], answer: u8, bad: usize) {
     let mut pixels = vec![0xA5; store];
-    let replay = M::replay(ram, &mut pixels, file);
+    let replay = M::replay(ram, &mut pixels, Table::default(), file);
     assert_eq!((replay.answer.number(), replay.bad), (answer, bad));
     assert_eq!((replay.lines, replay.counts), (0, counted(&[])));
     assert_eq!(replay.chip.state(), M::new().state());
-    assert_eq!(replay.chip.record(), []);
+    for editor in Editor::BOTH {
+        assert_eq!(replay.chip.record(editor), []);
+    }
     assert!(pixels.iter().all(|&byte| byte == 0xA5));
 }
 
@@ -261,7 +321,7 @@ fn refusals_come_before_anything_is_played<M: Machine>() {
     let last = file.len() - TRAILER - RECORD;
     bad[last + 4] = 0;
     is_refused::<M>(&[0; RAM], STORE, &bad, 13, 21);
-    bad[last - RECORD + 4] = 7;
+    bad[last - RECORD + 4] = 10;
     is_refused::<M>(&[0; RAM], STORE, &bad, 13, 20);
 }
 
@@ -312,26 +372,32 @@ fn any_take(random: &mut Random) -> Writing {
         true => Writing::default(),
         false => Writing::mapped(),
     };
+    take.table = any_table(random);
     for _ in 0..random.below(40) {
         take.line += random.pick(&[0, 0, 0, 1, 3, 40]);
         let (address, value) = (
             random.pick(&[0x4000, 0x6000, 0x6400, 0x6800, 0x6C00]),
             random.byte(),
         );
-        take = match random.below(8) {
+        take = match random.below(12) {
             0 => take.bc(random.pick(&[1, 4, 5, 6, 9, 12, 13, 40])),
             1 => take.bd(value),
             2 => take.gate(0x80 | value),
             3..=5 => take.page(address + random.below(20) as u16, value),
             6 => take.acknowledge(),
-            _ => take.undo(),
+            7 => take.undo(),
+            8..=9 => take.picture(address + random.below(20) as u16, value),
+            10 => take.picture_undo(),
+            _ if random.chance(3) => take.start(),
+            _ => take,
         };
     }
     take
 }
 
 held!(a_replay_is_its_calls_made_by_hand,
-    fails_with LinesAfterTheCall, RefusedCallEnds, RefusedNotCounted, FirstRecordSkipped, OneLineMore);
+    fails_with LinesAfterTheCall, RefusedCallEnds, RefusedNotCounted, FirstRecordSkipped, OneLineMore,
+        PictureUndoOfSong, PictureWriteOfSong, TableNotLent);
 fn a_replay_is_its_calls_made_by_hand<M: Machine>() {
     let mut random = Random(71);
     let mut ram = vec![0; RAM];
@@ -340,11 +406,13 @@ fn a_replay_is_its_calls_made_by_hand<M: Machine>() {
         let (mut store, mut by_hand_store) = ([0x33; STORE], [0x33; STORE]);
         let take = any_take(&mut random);
         let replay: Replay<M> = take.played_on(&ram, &mut store);
-        let mut by_hand = ByHand::<M>::new(&ram, &mut by_hand_store);
+        let mut by_hand = ByHand::<M>::new(&ram, &mut by_hand_store, take.table);
         take.records.iter().for_each(|&record| by_hand.play(record));
         let end = by_hand.end();
         assert_eq!(replay.chip.state(), end.chip.state());
-        assert_eq!(replay.chip.record(), end.chip.record());
+        for editor in Editor::BOTH {
+            assert_eq!(replay.chip.record(editor), end.chip.record(editor));
+        }
         assert_eq!((replay.lines, replay.counts), (end.lines, end.counts));
         assert!(store == by_hand_store);
     }

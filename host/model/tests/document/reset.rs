@@ -2,6 +2,7 @@
 
 use model::under_test::{UnderTest, KEY};
 use model::{held, Machine};
+use plus::Editor::Song;
 use plus::{Crtc, Editing, Gate, Interrupts, Lock, Sound, Sprite, State, Video, RAM, STORE};
 
 // The defaults are all zero: locked, not mapped, sprites and channels off.
@@ -22,7 +23,7 @@ fn all_is_zero_but_ivr<M: Machine>() {
         editing: Editing::default(),
     };
     assert_eq!(M::new().state(), expected);
-    assert_eq!(M::new().record(), []);
+    assert_eq!(M::new().record(Song), []);
 }
 
 held!(the_bytes_before_it_are_forgotten);

@@ -1,4 +1,4 @@
-//! Request L7: takes written and opened.
+//! Request L7: takes written and opened, with the kinds that L9 adds.
 
 use model::random::{any_comment, any_records, Random};
 use model::{held, Machine};
@@ -6,13 +6,16 @@ use plus::take::{Opened, Record, RecordRead, Written, RECORD, TRAILER};
 use plus::Answer;
 
 /// Kinds with a good address and value each.
-const GOOD: [(u8, u16, u8); 6] = [
+const GOOD: [(u8, u16, u8); 9] = [
     (1, 0, 0x7F),
     (2, 0, 0x28),
     (3, 0, 0xB8),
     (4, 0x6C0F, 0x01),
     (5, 0, 0),
     (6, 0, 0),
+    (7, 0x6400, 0x02),
+    (8, 0, 0),
+    (9, 0, 0),
 ];
 
 fn record(line: u32, (kind, address, value): (u8, u16, u8)) -> Record {
@@ -176,15 +179,16 @@ fn a_record_as_a_number<M: Machine>() {
 }
 
 held!(each_kind_has_its_parts,
-    fails_with Kind0Accepted, Kind7Accepted, PortWithAddress, UndoWithValue);
+    fails_with Kind0Accepted, Kind10Accepted, PortWithAddress, UndoWithValue, StartWithValue,
+        StartWithAddress, PictureWriteWithoutAddress);
 fn each_kind_has_its_parts<M: Machine>() {
     for kind in 0..=255 {
         for (address, value) in [(0, 0), (0, 1), (0, 0x80), (1, 0), (0x100, 0), (0x6400, 9)] {
             let records = [record(3, (kind, address, value))];
             let good = match kind {
                 1..=3 => address == 0,
-                4 => true,
-                5 | 6 => (address, value) == (0, 0),
+                4 | 7 => true,
+                5 | 6 | 8 | 9 => (address, value) == (0, 0),
                 _ => false,
             };
             match good {
@@ -198,13 +202,13 @@ fn each_kind_has_its_parts<M: Machine>() {
 held!(any_byte_and_any_page_address_is_good);
 fn any_byte_and_any_page_address_is_good<M: Machine>() {
     for value in 0..=255 {
-        are_good::<M>(&[1, 2, 3, 4].map(|kind| record(0, (kind, 0, value))));
+        are_good::<M>(&[1, 2, 3, 4, 7].map(|kind| record(0, (kind, 0, value))));
     }
     // Inside the page, outside it, and where no register is.
     for address in [
         0x0000, 0x3FFF, 0x4000, 0x6808, 0x7000, 0x7FFF, 0x8000, 0xFFFF,
     ] {
-        are_good::<M>(&[record(0, (4, address, 0))]);
+        are_good::<M>(&[4, 7].map(|kind| record(0, (kind, address, 0))));
     }
 }
 
@@ -243,7 +247,7 @@ fn the_first_bad_record_is_told<M: Machine>() {
         for second in place..good.len() {
             let mut records = good.clone();
             records[place].kind = 0;
-            records[second].kind = 7;
+            records[second].kind = 10;
             are_bad::<M>(&records, place + 1);
         }
     }
@@ -447,7 +451,7 @@ fn records_count_from_1<M: Machine>() {
 
 held!(a_bad_record_is_given, fails_with NoRecordsThoughMet);
 fn a_bad_record_is_given<M: Machine>() {
-    let records = [undo(9), record(3, (7, 0x1234, 0x56)), undo(2)];
+    let records = [undo(9), record(3, (10, 0x1234, 0x56)), undo(2)];
     are_numbered::<M>(&file_of(b"", &records), &records);
 }
 
@@ -484,7 +488,7 @@ fn what_opens_is_written_again<M: Machine>() {
         let count = random.below(3) as u32;
         let mut file = vec![0; 8 * count as usize + random.below(4) as usize];
         for byte in &mut file {
-            *byte = random.either(8, 256, 2) as u8 * random.below(7) as u8;
+            *byte = random.either(8, 256, 2) as u8 * random.below(10) as u8;
         }
         let offset = file.len() as u32 - 8 * count;
         let high = random.pick(&[0, 0, 0, 0, 1, 0x2000_0000]);

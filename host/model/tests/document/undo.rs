@@ -4,6 +4,7 @@ use crate::kept;
 use model::random::{any_state, Random};
 use model::under_test::{ram_with, UnderTest};
 use model::{held, Machine};
+use plus::Editor::Song;
 use plus::{EXPORT, RAM, STORE, UNLOCK};
 use std::collections::VecDeque;
 
@@ -32,11 +33,11 @@ fn every_write_is_taken_back<M: Machine>() {
         chip.put(state);
         let lent = store;
         for byte in [0x00, 0xFF, random.byte()] {
-            assert_eq!(chip.page_write(&mut store, address, byte), 0);
-            assert_eq!(chip.undo(&mut store), 0);
+            assert_eq!(chip.page_write(Song, &mut store, address, byte), 0);
+            assert_eq!(chip.undo(Song, &mut store), 0);
             assert_eq!(chip.state(), state, "{address:04X}");
             assert_eq!(store, lent, "{address:04X}");
-            assert_eq!(chip.record(), [], "{address:04X}");
+            assert_eq!(chip.record(Song), [], "{address:04X}");
         }
     }
 }
@@ -55,18 +56,18 @@ fn a_write_is_kept_with_what_was_there<M: Machine>() {
         };
         let second = kept::bits(address).unwrap();
         for byte in [0xFF, 0xFF] {
-            assert_eq!(chip.page_write(&mut store, address, byte), 0);
+            assert_eq!(chip.page_write(Song, &mut store, address, byte), 0);
         }
-        assert_eq!(chip.record(), [(address, second), (address, first)]);
-        assert_eq!(chip.undo(&mut store), 0);
-        assert_eq!(chip.record(), [(address, first)]);
+        assert_eq!(chip.record(Song), [(address, second), (address, first)]);
+        assert_eq!(chip.undo(Song, &mut store), 0);
+        assert_eq!(chip.record(Song), [(address, first)]);
     }
 }
 
 /// What a chip shows: some addresses read, the current line, the export.
 fn shown<M: Machine>(chip: &mut M, store: &[u8]) -> (Vec<u8>, Vec<u8>, [u8; EXPORT]) {
     let addresses = kept::addresses().into_iter().skip(4000);
-    let read = addresses.map(|address| chip.page_read(store, address, 0x5A).1);
+    let read = addresses.map(|address| chip.page_read(Song, store, address, 0x5A).1);
     (
         read.collect(),
         chip.drawn(&[0x1B; RAM], store),
@@ -81,8 +82,8 @@ fn what_is_shown_drawn_and_exported_goes_back<M: Machine>() {
     let (mut chip, mut store) = any_chip::<M>(&mut random);
     let before = shown(&mut chip, &store);
     for address in kept::addresses().into_iter().skip(4000) {
-        assert_eq!(chip.page_write(&mut store, address, random.byte()), 0);
-        assert_eq!(chip.undo(&mut store), 0);
+        assert_eq!(chip.page_write(Song, &mut store, address, random.byte()), 0);
+        assert_eq!(chip.undo(Song, &mut store), 0);
         assert!(shown(&mut chip, &store) == before, "{address:04X}");
     }
 }
@@ -93,11 +94,11 @@ fn a_pixels_whole_byte<M: Machine>() {
     let mut chip = M::open();
     let mut store = [0xA7; STORE];
     for (byte, pixel) in [(0x03, 0x03), (0xFC, 0x0C)] {
-        assert_eq!(chip.page_write(&mut store, 0x4ABC, byte), 0);
+        assert_eq!(chip.page_write(Song, &mut store, 0x4ABC, byte), 0);
         assert_eq!(store[0x0ABC], pixel);
     }
     for pixel in [0x03, 0xA7] {
-        assert_eq!(chip.undo(&mut store), 0);
+        assert_eq!(chip.undo(Song, &mut store), 0);
         assert_eq!(store[0x0ABC], pixel);
     }
     assert_eq!(store, [0xA7; STORE]);
@@ -159,11 +160,11 @@ fn dcsr_is_not_kept<M: Machine>() {
     for byte in [0x07, 0x70, 0x05] {
         chip.poke(0x6C0F, byte);
     }
-    assert_eq!(chip.record(), [(0x6410, 0x00)]);
+    assert_eq!(chip.record(Song), [(0x6410, 0x00)]);
     chip.take_back();
     assert_eq!(chip.peek(0x6410, 0), 0x00);
     assert_eq!(chip.peek(0x6C0F, 0), 0x05);
-    assert_eq!(chip.undo(&mut [0; STORE]), 10);
+    assert_eq!(chip.undo(Song, &mut [0; STORE]), 10);
 }
 
 held!(a_refused_write_is_not_kept, fails_with RefusedKept);
@@ -178,13 +179,13 @@ fn a_refused_write_is_not_kept<M: Machine>() {
         (0x6C03, 3),
         (0x680F, 9),
     ] {
-        assert_eq!(chip.page_write(&mut store, address, 0xFF), answer);
-        assert_eq!(chip.record(), [(0x6410, 0x00)], "{address:04X}");
+        assert_eq!(chip.page_write(Song, &mut store, address, 0xFF), answer);
+        assert_eq!(chip.record(Song), [(0x6410, 0x00)], "{address:04X}");
     }
-    assert_eq!(chip.page_write(&mut store[1..], 0x6410, 0xFF), 1);
+    assert_eq!(chip.page_write(Song, &mut store[1..], 0x6410, 0xFF), 1);
     assert_eq!(chip.write_7f(0xA0), 0);
-    assert_eq!(chip.page_write(&mut store, 0x6410, 0xFF), 2);
-    assert_eq!(chip.record(), [(0x6410, 0x00)]);
+    assert_eq!(chip.page_write(Song, &mut store, 0x6410, 0xFF), 2);
+    assert_eq!(chip.record(Song), [(0x6410, 0x00)]);
 }
 
 // Two writes of one byte take two undos.
@@ -213,7 +214,7 @@ fn the_257th_drops_the_oldest<M: Machine>() {
             chip.take_back();
             assert_eq!(chip.peek(0x6400, 0), (k % 251) as u8, "{writes}");
         }
-        assert_eq!(chip.undo(&mut [0; STORE]), 10, "{writes}");
+        assert_eq!(chip.undo(Song, &mut [0; STORE]), 10, "{writes}");
         assert_eq!(chip.peek(0x6400, 0), (dropped % 251) as u8);
     }
 }
@@ -233,14 +234,14 @@ fn writes_and_undos_in_any_order<M: Machine>() {
             }
             before.push_back((chip.state(), store));
             let (address, byte) = (random.pick(&addresses), random.byte());
-            assert_eq!(chip.page_write(&mut store, address, byte), 0);
+            assert_eq!(chip.page_write(Song, &mut store, address, byte), 0);
         } else if let Some(expected) = before.pop_back() {
-            assert_eq!(chip.undo(&mut store), 0);
+            assert_eq!(chip.undo(Song, &mut store), 0);
             assert!((chip.state(), store) == expected, "round {round}");
         } else {
-            assert_eq!(chip.undo(&mut store), 10);
+            assert_eq!(chip.undo(Song, &mut store), 10);
         }
-        assert_eq!(chip.record().len(), before.len());
+        assert_eq!(chip.record(Song).len(), before.len());
     }
     assert!(before.is_empty());
 }
@@ -252,21 +253,21 @@ held!(a_gesture_is_one_entry, fails_with WrittenByteBack);
 fn a_gesture_is_one_entry<M: Machine>() {
     for (address, before) in [(0x6400, 0x70), (0x4123, 0x05), (0x6C02, 0x09)] {
         let (mut chip, mut store) = (M::open(), [0; STORE]);
-        assert_eq!(chip.page_write(&mut store, address, before), 0);
+        assert_eq!(chip.page_write(Song, &mut store, address, before), 0);
         let (state, pixels) = (chip.state(), store);
         for event in 1..=300 {
             if event > 1 {
-                assert_eq!(chip.undo(&mut store), 0);
+                assert_eq!(chip.undo(Song, &mut store), 0);
             }
-            assert_eq!(chip.page_write(&mut store, address, event as u8), 0);
+            assert_eq!(chip.page_write(Song, &mut store, address, event as u8), 0);
         }
-        assert_eq!(chip.record(), [(address, before), (address, 0)]);
-        assert_eq!(chip.undo(&mut store), 0);
+        assert_eq!(chip.record(Song), [(address, before), (address, 0)]);
+        assert_eq!(chip.undo(Song, &mut store), 0);
         assert_eq!((chip.state(), store), (state, pixels));
         for event in 1..=300 {
-            assert_eq!(chip.page_write(&mut store, address, event as u8), 0);
+            assert_eq!(chip.page_write(Song, &mut store, address, event as u8), 0);
         }
-        assert_eq!(chip.record().len(), 256);
+        assert_eq!(chip.record(Song).len(), 256);
     }
 }
 
@@ -278,7 +279,7 @@ fn nothing_to_undo<M: Machine>() {
     emptied.take_back();
     for mut chip in [M::new(), emptied] {
         let before = chip.state();
-        assert_eq!(chip.undo(&mut store), 10);
+        assert_eq!(chip.undo(Song, &mut store), 10);
         assert_eq!(chip.state(), before);
         assert_eq!(store, [0x77; STORE]);
     }
@@ -292,12 +293,12 @@ fn a_length_is_refused_first<M: Machine>() {
         for _ in 0..writes {
             chip.poke(0x6400, 0x33);
         }
-        let before = (chip.state(), chip.record());
+        let before = (chip.state(), chip.record(Song));
         for length in [0, 1, EXPORT, STORE - 1, STORE + 1, RAM] {
             let mut store = vec![0x33; length];
-            assert_eq!(chip.undo(&mut store), 1);
+            assert_eq!(chip.undo(Song, &mut store), 1);
             assert_eq!(store, vec![0x33; length]);
-            assert_eq!((chip.state(), chip.record()), before);
+            assert_eq!((chip.state(), chip.record(Song)), before);
         }
     }
 }
@@ -324,8 +325,8 @@ fn a_reset_empties_the_record<M: Machine>() {
     let mut chip = M::open();
     chip.poke(0x6400, 0x33);
     chip.reset();
-    assert_eq!(chip.record(), []);
-    assert_eq!(chip.undo(&mut [0; STORE]), 10);
+    assert_eq!(chip.record(Song), []);
+    assert_eq!(chip.undo(Song, &mut [0; STORE]), 10);
 }
 
 // A prescale is changed and undone, and all is as with a chip on which nobody

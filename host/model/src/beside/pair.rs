@@ -1,0 +1,219 @@
+//! Pairs of runs, each made from a seed alone.
+
+use super::Premises;
+use crate::compare::{Buffers, Call};
+use crate::random::{any_accesses, any_table, any_word, Random};
+use plus::{Editor, Table, EXPORT, LINE, RAM, STORE, UNLOCK};
+
+/// What the two runs do next.
+#[derive(Clone, Debug)]
+pub enum Step {
+    /// One call, in both.
+    Both(Call),
+    /// In each some calls of the other editor's, or none.
+    Apart([Vec<Call>; 2]),
+}
+
+/// Two runs from one state that differ in one editor's calls.
+pub struct Pair {
+    pub seed: u64,
+    /// The editor whose calls are in both.
+    pub watching: Editor,
+    pub lent: Buffers,
+    /// From reset up to the state that both start from, in which a table holds.
+    pub before: Vec<Call>,
+    pub steps: Vec<Step>,
+}
+
+impl Pair {
+    pub fn new(seed: u64, premises: Premises) -> Pair {
+        let mut random = Random::new(seed);
+        let watching = random.pick(&Editor::BOTH);
+        let table = any_table(&mut random);
+        let mut making = Making {
+            random,
+            table,
+            watching,
+            premises,
+        };
+        Pair {
+            seed,
+            watching,
+            lent: making.lent(),
+            before: making.before(),
+            steps: (0..80).map(|_| making.step()).collect(),
+        }
+    }
+}
+
+struct Making {
+    random: Random,
+    table: Table,
+    watching: Editor,
+    premises: Premises,
+}
+
+impl Making {
+    /// RAM of words with many an INT, and any pixels.
+    fn lent(&mut self) -> Buffers {
+        let r = &mut self.random;
+        let mut ram = vec![0; RAM];
+        for place in ram.chunks_exact_mut(2) {
+            place.copy_from_slice(&any_word(r).to_le_bytes());
+        }
+        let mut store = vec![0; STORE];
+        r.fill(&mut store);
+        Buffers {
+            ram,
+            store,
+            line: vec![0; LINE],
+            export: vec![0; EXPORT],
+        }
+    }
+
+    /// Unlocked and mapped, IVR set, frames of 32 lines; calls of both editors
+    /// before the start and after it.
+    fn before(&mut self) -> Vec<Call> {
+        let mut calls: Vec<Call> = UNLOCK.map(Call::WriteBc).into();
+        calls.push(Call::Write7f(0xB8));
+        for (register, byte) in [(4, 3), (9, 7)] {
+            calls.extend([Call::WriteBc(register), Call::WriteBd(byte)]);
+        }
+        self.some(&mut calls);
+        let ivr = match self.premises.ivr_bit_0 {
+            true => self.random.byte() | 1,
+            false => self.random.byte() & 0xFE,
+        };
+        calls.push(Call::Write7f(0xB8));
+        calls.push(Call::PageWrite {
+            editor: self.watching,
+            store: STORE,
+            address: 0x6805,
+            byte: ivr,
+        });
+        calls.push(Call::Start(self.table));
+        self.some(&mut calls);
+        calls
+    }
+
+    /// Some calls of both editors and of the host, any reads and undos among them.
+    fn some(&mut self, calls: &mut Vec<Call>) {
+        for _ in 0..self.random.below(40) {
+            let editor = self.random.pick(&Editor::BOTH);
+            let call = match self.random.chance(3) {
+                true => self.of_host(),
+                false => self.of_editor(editor),
+            };
+            calls.push(call);
+        }
+    }
+
+    fn step(&mut self) -> Step {
+        match self.random.below(6) {
+            0..=1 => Step::Both(self.of_host()),
+            2..=3 => Step::Both(self.of_watching()),
+            _ => Step::Apart([(); 2].map(|()| self.of_other())),
+        }
+    }
+
+    /// Up to three calls of the other editor's.
+    fn of_other(&mut self) -> Vec<Call> {
+        let other = self.watching.other();
+        let count = self.random.below(4);
+        (0..count).map(|_| self.of_editor(other)).collect()
+    }
+
+    /// A call of the editor that watches, which reads no more than it may.
+    fn of_watching(&mut self) -> Call {
+        let mut call = self.of_editor(self.watching);
+        if let Call::PageRead { address, .. } = &mut call {
+            while self.premises.own_reads && !self.may_read(*address) {
+                *address = self.address();
+            }
+        }
+        call
+    }
+
+    /// Whether the editor that watches owns an address, or reads DCSR there.
+    fn may_read(&self, address: u16) -> bool {
+        let (number, n) = match address {
+            0x4000..=0x4FFF => (self.table.sprites.into(), (address - 0x4000) / 256),
+            0x6000..=0x607F => (self.table.sprites.into(), (address - 0x6000) / 8),
+            0x6400..=0x643F => (self.table.palette, (address - 0x6400) / 2),
+            0x6800..=0x6804 => return self.watching == Editor::Picture,
+            0x6C00..=0x6C0F => return true,
+            _ => return false,
+        };
+        Editor::from((number >> n & 1) as u8) == self.watching
+    }
+
+    fn address(&mut self) -> u16 {
+        let r = &mut self.random;
+        match r.below(16) {
+            0..=2 => 0x6C00 + r.below(16) as u16,
+            3..=5 => 0x6C0F,
+            6..=7 => 0x6800 + r.below(10) as u16,
+            8..=9 => 0x6000 + r.below(128) as u16,
+            10..=11 => 0x6400 + r.below(64) as u16,
+            12..=14 => 0x4000 + r.below(4096) as u16,
+            _ => r.word(),
+        }
+    }
+
+    /// The store's length, seldom another.
+    fn store(&mut self) -> usize {
+        match self.random.chance(40) {
+            true => self.random.below(STORE as u64) as usize,
+            false => STORE,
+        }
+    }
+
+    fn of_editor(&mut self, editor: Editor) -> Call {
+        let (address, store) = (self.address(), self.store());
+        let byte = match address {
+            // Lines that the frame has.
+            0x6800 | 0x6801 => self.random.below(32) as u8,
+            _ => self.random.byte(),
+        };
+        match self.random.below(8) {
+            0 => Call::Undo { editor, store },
+            1..=2 => Call::PageRead {
+                editor,
+                store,
+                address,
+                bus: byte,
+            },
+            _ => Call::PageWrite {
+                editor,
+                store,
+                address,
+                byte,
+            },
+        }
+    }
+
+    fn of_host(&mut self) -> Call {
+        let r = &mut self.random;
+        match r.below(24) {
+            0..=11 => Call::Step {
+                ram: RAM,
+                accesses: any_accesses(r),
+            },
+            12..=15 => Call::Acknowledge,
+            16 => Call::WriteBc(r.byte()),
+            17 => Call::WriteBd(r.byte()),
+            18 if r.chance(3) => Call::Write7f(0xA0 | r.byte() & 0x07),
+            18..=20 => Call::Write7f(0xB8 | r.byte() & 0x07),
+            21 => Call::Start(match self.premises.one_table {
+                true => self.table,
+                false => any_table(r),
+            }),
+            22 => Call::Export { out: EXPORT },
+            _ => Call::Draw {
+                ram: RAM,
+                store: STORE,
+                line: LINE,
+            },
+        }
+    }
+}
