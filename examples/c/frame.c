@@ -25,7 +25,7 @@ static void served(uint8_t answer) {
 }
 
 static PlusChip poke(PlusChip chip, uint16_t address, uint8_t byte) {
-    PlusAnswered written = plus_page_write(chip, store, sizeof store, places, address, byte);
+    PlusAnswered written = plus_page_write(chip, PLUS_SONG, store, sizeof store, places, address, byte);
     served(written.answer);
     return written.chip;
 }

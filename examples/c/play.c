@@ -1,7 +1,7 @@
 /* Sees that the library is its header's, reads a sound list from text and prints it, forecasts it, then plays it on channel 0 up to its
  * STOP and counts the same numbers: the least cycles with the processor off the 8255, the most with PSG register writes on every line.
  * On the way a slider moves the prescale, and the gesture is undone. The calls before the lines are written as a take, which is opened
- * and played again. */
+ * and played again. In the end a picture editor works beside the song editor, under a table that says what is whose. */
 #include <stdio.h>
 #include <stdlib.h>
 #include <string.h>
@@ -13,8 +13,8 @@ static const uint8_t unlock[] = {0x01, 0x00, 0xFF, 0x77, 0xB3, 0x51, 0xA8, 0xD4,
 static const char song[] = "LOAD 7 38\nPAUSE 2\nSTOP\n";
 
 static uint8_t ram[PLUS_RAM], store[PLUS_STORE];
-static uint32_t places[PLUS_PLACES]; /* the page writes that can be undone */
-static uint64_t records[32];         /* the calls noted, all of them on line 0 */
+static uint32_t places[2][PLUS_PLACES]; /* the page writes that can be undone, each editor's at its number */
+static uint64_t records[32];            /* the calls noted, all of them on line 0 */
 static size_t noted;
 
 /* Ends the program at a refusal. */
@@ -42,7 +42,7 @@ static void fitting(void) {
 }
 
 static PlusChip poke(PlusChip chip, uint16_t address, uint8_t byte) {
-    PlusAnswered written = plus_page_write(chip, store, sizeof store, places, address, byte);
+    PlusAnswered written = plus_page_write(chip, PLUS_SONG, store, sizeof store, places[PLUS_SONG], address, byte);
     served("page write", written.answer);
     note(PLUS_TAKE_PAGE_WRITE, address, byte);
     return written.chip;
@@ -65,7 +65,7 @@ static void put_list(const char *listing, uint16_t start) {
 }
 
 static PlusChip undo(PlusChip chip) {
-    PlusAnswered undone = plus_undo(chip, store, sizeof store, places);
+    PlusAnswered undone = plus_undo(chip, PLUS_SONG, store, sizeof store, places[PLUS_SONG]);
     served("undo", undone.answer);
     note(PLUS_TAKE_UNDO, 0, 0);
     return undone.chip;
@@ -108,7 +108,9 @@ static void put_take(const char *comment) {
     printf("take: %zu bytes of %.*s, %zu records, the last %u to %04Xh\n", written.size, (int)opened.offset, (const char *)file,
            opened.count, last.value, last.address);
 
-    PlusReplayed replayed = plus_replay(ram, sizeof ram, store, sizeof store, places, file, written.size);
+    PlusTable none = {.palette = 0, .sprites = 0, .channels = 0}; /* the take has no start that would give it */
+    PlusReplayed replayed =
+        plus_replay(ram, sizeof ram, store, sizeof store, places[PLUS_SONG], places[PLUS_PICTURE], none, file, written.size);
     served("replay", replayed.answer);
     play("replayed", replayed.chip, PLUS_OFF);
 }
@@ -130,6 +132,22 @@ static PlusChip ready(void) {
     return poke(chip, 0x6C0F, 0x01);
 }
 
+/* A picture editor beside the song editor. The table gives it all palette entries and sprites, and the song editor the channels. */
+static void put_editors(PlusChip chip) {
+    PlusTable table = {.palette = 0xFFFFFFFF, .sprites = 0xFFFF, .channels = 0};
+    PlusAnswered started = plus_start(chip, table);
+    served("start", started.answer);
+    chip = started.chip;
+    for (uint8_t editor = PLUS_SONG; editor <= PLUS_PICTURE; editor++) {
+        PlusAnswered written = plus_page_write(chip, editor, store, sizeof store, places[editor], 0x6400, 0x70);
+        chip = written.chip;
+        uint8_t dcsr = plus_page_read(chip, editor, store, sizeof store, 0x6C0F, 0).byte;
+        PlusUndo record = editor == PLUS_SONG ? chip.editing.song : chip.editing.picture;
+        printf("%s editor: a colour: %s; DCSR %u, %u to undo\n", editor == PLUS_SONG ? "song" : "picture",
+               plus_answer_text(written.answer), dcsr, record.count);
+    }
+}
+
 int main(void) {
     fitting();
     put_list(song, 0x8000);
@@ -140,5 +158,6 @@ int main(void) {
     play("played", ready(), PLUS_OFF);
     play("played beside PSG writes", ready(), PLUS_PSG_WRITE);
     put_take("a song");
+    put_editors(ready());
     return 0;
 }

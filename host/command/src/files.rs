@@ -3,7 +3,7 @@
 use crate::failure::Failure;
 use crate::given::Given;
 use crate::output;
-use crate::replace::replace;
+use crate::replace::{end_of_links, folder_of, replace};
 use crate::Done;
 use std::fs::{self, File, Metadata};
 use std::io::Read;
@@ -74,6 +74,23 @@ impl<'a> Files<'a> {
 }
 
 impl Place {
+    /// Whether two places are one, by whatever names and links.
+    pub fn is(&self, other: &Place) -> bool {
+        let file = |place: &Place| fs::metadata(&place.0).ok().map(|data| identity(&data));
+        match (file(self), file(other)) {
+            (Some(one), Some(two)) => one.is_some() && one == two,
+            (None, None) => self.name() == other.name() && self.name().is_some(),
+            _ => false,
+        }
+    }
+
+    /// The whole name of a file that isn't there yet, if its folder is.
+    fn name(&self) -> Option<PathBuf> {
+        let end = end_of_links(&self.0).ok()?;
+        let folder = fs::canonicalize(folder_of(&end)).ok()?;
+        Some(folder.join(end.file_name()?))
+    }
+
     /// Writes the file, or writes it over.
     pub fn write(&self, contents: impl AsRef<[u8]>) -> Done {
         let path = &self.0;

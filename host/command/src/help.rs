@@ -132,9 +132,16 @@ fn wrong_use(what: &str, expected: String) -> Failure {
     }
 }
 
+/// The longest call that has its line of help beside it, and not below.
+const WIDE: usize = 36;
+
 fn overview() -> String {
-    let width = entries().map(|entry| entry.call.len()).max().unwrap_or(0);
-    let row = |Entry { call, about, .. }| format!("\n  {call:<width$}   {about}");
+    let widths = entries().map(|entry| entry.call.len());
+    let width = widths.filter(|&width| width <= WIDE).max().unwrap_or(0);
+    let row = |Entry { call, about, .. }: Entry| match call.len() <= width {
+        true => format!("\n  {call:<width$}   {about}"),
+        false => format!("\n  {call}\n  {:<width$}   {about}", ""),
+    };
     let rows: String = entries().map(row).collect();
     format!("usage: plus COMMAND ...\n{rows}")
 }

@@ -1,11 +1,11 @@
 //! Numbers as a person writes them.
 
 /// One to so many hexadecimal digits, of either case.
-pub fn hexadecimal(digits: &str, most: usize) -> Option<u16> {
+pub fn hexadecimal(digits: &str, most: usize) -> Option<u32> {
     if digits.len() > most || !digits.bytes().all(|digit| digit.is_ascii_hexdigit()) {
         return None;
     }
-    u16::from_str_radix(digits, 16).ok()
+    u32::from_str_radix(digits, 16).ok()
 }
 
 /// Decimal digits, for at most this number.

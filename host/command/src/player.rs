@@ -2,13 +2,18 @@
 
 use crate::scene::Record;
 use plus::take::{Noted, Recorder};
-use plus::{Access, Answer, Length, Report, EXPORT, LINE};
+use plus::{Access, Answer, Editor, Length, Report, Table, EXPORT, LINE, TABLE};
 
-/// A chip that notes every call that is served, and what is lent to it.
+/// How many bytes can wait for a start, of which its table is the first seven.
+const WAITING: usize = 16;
+
+/// A chip that notes every call that is served, what is lent to it, and the bytes
+/// that wait for a start.
 pub struct Player {
     pub chip: Recorder,
     pub ram: Vec<u8>,
     pub store: Vec<u8>,
+    waiting: [u8; WAITING],
 }
 
 /// What a record's call gave.
@@ -36,6 +41,7 @@ impl Player {
             chip: Recorder::new(Noted::Served),
             ram: ram.to_vec(),
             store: store.to_vec(),
+            waiting: [0; WAITING],
         }
     }
 
@@ -46,9 +52,14 @@ impl Player {
             b'B' => Outcome::Answer(self.chip.write_bc(value)),
             b'D' => Outcome::Answer(self.chip.write_bd(value)),
             b'G' => Outcome::Answer(self.chip.write_7f(value)),
-            b'W' => Outcome::Answer(self.chip.page_write(&mut self.store, address, value)),
-            b'R' => self.read(address, value),
-            b'U' => Outcome::Answer(self.chip.undo(&mut self.store)),
+            b'W' => self.write(Editor::Song, address, value),
+            b'R' => self.read(Editor::Song, address, value),
+            b'U' => self.undo(Editor::Song),
+            b'w' => self.write(Editor::Picture, address, value),
+            b'r' => self.read(Editor::Picture, address, value),
+            b'u' => self.undo(Editor::Picture),
+            b'T' => self.wait(address, value),
+            b'S' => self.start(),
             b'E' => self.export(),
             b'A' => self.acknowledge(),
             b'L' => self.step(value),
@@ -60,9 +71,33 @@ impl Player {
         }
     }
 
-    fn read(&mut self, address: u16, bus: u8) -> Outcome {
-        let (answer, byte) = self.chip.page_read(&self.store, address, bus);
+    fn write(&mut self, editor: Editor, address: u16, value: u8) -> Outcome {
+        let store = &mut self.store;
+        Outcome::Answer(self.chip.page_write(editor, store, address, value))
+    }
+
+    fn read(&mut self, editor: Editor, address: u16, bus: u8) -> Outcome {
+        let (answer, byte) = self.chip.page_read(editor, &self.store, address, bus);
         Outcome::Byte(answer, byte)
+    }
+
+    fn undo(&mut self, editor: Editor) -> Outcome {
+        Outcome::Answer(self.chip.undo(editor, &mut self.store))
+    }
+
+    /// A byte that waits for a start; one that has no place there goes nowhere.
+    fn wait(&mut self, address: u16, value: u8) -> Outcome {
+        if let Some(place) = self.waiting.get_mut(usize::from(address)) {
+            *place = value;
+        }
+        Outcome::Answer(Answer::Done)
+    }
+
+    /// A start with the table in the first of the waiting bytes, which stay.
+    fn start(&mut self) -> Outcome {
+        let mut bytes = [0; TABLE];
+        bytes.copy_from_slice(&self.waiting[..TABLE]);
+        Outcome::Answer(self.chip.start(Table::from(bytes)))
     }
 
     fn export(&mut self) -> Outcome {
@@ -98,6 +133,7 @@ impl Player {
 
     fn reset(&mut self) -> Outcome {
         self.chip.reset();
+        self.waiting = [0; WAITING];
         Outcome::Answer(Answer::Done)
     }
 }

@@ -57,7 +57,7 @@ pub fn start(given: &Given) -> Result<Option<u16>, Failure> {
             let digits = digits.display();
             given.wrong(format!("'{digits}' is not one to four hexadecimal digits"))
         };
-        address.ok_or_else(wrong)
+        address.map(|address| address as u16).ok_or_else(wrong)
     });
     named.transpose()
 }

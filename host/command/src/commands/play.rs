@@ -1,4 +1,4 @@
-//! `plus play RAM STORE TAKE [AFTER]`.
+//! `plus play RAM STORE TAKE [AFTER] [--table FILE]`.
 
 use super::Command;
 use crate::failure::Failure;
@@ -8,7 +8,7 @@ use crate::lines::digits;
 use crate::output::Output;
 use crate::Done;
 use plus::take::{replay, Refused, Replayed};
-use plus::{Answer, Channel, Chip, Counters, Registers, EXPORT, RAM, STORE};
+use plus::{Answer, Channel, Chip, Counters, Editor, Registers, Table, EXPORT, RAM, STORE, TABLE};
 use std::path::Path;
 
 pub const COMMAND: Command = Command { name: "play", run };
@@ -18,15 +18,30 @@ fn run(given: &Given, output: &mut Output) -> Done {
     let mut files = Files::of(given);
     let (ram, mut store) = (files.contents(paths[0])?, files.contents(paths[1])?);
     let take = files.contents(paths[2])?;
+    let table = table(given, &mut files)?;
     let after = given.argument(3).map(|path| files.place(Path::new(path)));
     let after = after.transpose()?;
-    let played = replay(&ram, &mut store, &take)
+    let played = replay(&ram, &mut store, table, &take)
         .served()
         .map_err(|refused| failure(refused, ram.len(), &paths))?;
     if let Some(after) = after {
         after.write(&store)?;
     }
     print(&played, output)
+}
+
+/// The table that the starts give: that of the option's file, or all 0.
+fn table(given: &Given, files: &mut Files) -> Result<Table, Failure> {
+    let Some(path) = given.option("--table").map(Path::new) else {
+        return Ok(Table::default());
+    };
+    // A byte more than it has, to see whether there is one.
+    let bytes = files.first(path, TABLE as u64 + 1)?;
+    let bytes: [u8; TABLE] = bytes.try_into().map_err(|_| {
+        let path = path.display();
+        given.wrong(format!("'{path}' is not a table of {TABLE} bytes"))
+    })?;
+    Ok(Table::from(bytes))
 }
 
 /// A refusal, with the file that it is about.
@@ -75,7 +90,8 @@ fn print_rest(chip: &Chip, output: &mut Output) -> Done {
         u8::from(chip.gate.mapped),
         u8::from(chip.lock.unlocked)
     ))?;
-    output.line(format_args!("undo {}", chip.record().count()))?;
+    let [song, picture] = Editor::BOTH.map(|editor| chip.record(editor).count());
+    output.line(format_args!("undo {song} {picture}"))?;
     let mut out = [0; EXPORT];
     let answer = chip.export(&mut out);
     debug_assert_eq!(answer, Answer::Done);

@@ -1,4 +1,4 @@
-//! `plus run FILE [--take OUT]`.
+//! `plus run FILE [--take OUT] [--table FILE]`.
 
 use super::Command;
 use crate::failure::Failure;
@@ -15,11 +15,19 @@ use std::path::Path;
 pub const COMMAND: Command = Command { name: "run", run };
 
 fn run(given: &Given, output: &mut Output) -> Done {
+    let out = given.option("--take").map(Path::new);
+    if out.is_none() && given.flag("--table") {
+        return Err(given.wrong("--table goes with --take"));
+    }
     let mut files = Files::of(given);
     let scene = scene::read(&mut files, given.path(0))?;
-    if let Some(out) = given.option("--take") {
-        let out = Path::new(out);
-        save(&scene, &files.place(out)?, out)?;
+    if let Some(out) = out {
+        let (take, table) = (files.place(out)?, table_place(given, &files)?);
+        if table.as_ref().is_some_and(|table| table.is(&take)) {
+            let what = format!("'{}' is given for take and table", out.display());
+            return Err(given.wrong(what));
+        }
+        save(&scene, &take, table.as_ref(), out)?;
     }
     let faults = played(&scene, output)?;
     output.finish()?;
@@ -67,9 +75,16 @@ fn each(
     Ok(None)
 }
 
-/// Saves the take of a scene. One that ends early has none, which is said when it
-/// is played.
-fn save(scene: &Scene, place: &Place, out: &Path) -> Done {
+/// Where the table goes, if it is asked for.
+fn table_place(given: &Given, files: &Files) -> Result<Option<Place>, Failure> {
+    let path = given.option("--table").map(Path::new);
+    path.map(|path| files.place(path)).transpose()
+}
+
+/// Saves the take of a scene, and before it the table that its starts give if there
+/// is a place for that. A scene that ends early has none, which is said when it is
+/// played.
+fn save(scene: &Scene, place: &Place, table: Option<&Place>, out: &Path) -> Done {
     let no_take = |why| Failure::NoTake {
         path: scene.path.clone(),
         why,
@@ -83,8 +98,11 @@ fn save(scene: &Scene, place: &Place, out: &Path) -> Done {
     let records = player
         .chip
         .records()
-        .map_err(|late| no_take(late.to_string()))?;
+        .map_err(|why| no_take(why.to_string()))?;
     let take = file_of(&[], records).map_err(|refused| Failure::refused_take(refused, out))?;
+    if let Some(table) = table {
+        table.write(player.chip.given_table().bytes())?;
+    }
     place.write(take)
 }
 

@@ -5,7 +5,7 @@ use super::{Record, RECORD};
 use crate::failure::Failure;
 use crate::files::Files;
 use crate::sound;
-use plus::{RAM, STORE};
+use plus::{Table, RAM, STORE};
 use std::fs;
 use std::path::{Path, PathBuf};
 
@@ -15,8 +15,8 @@ use std::path::{Path, PathBuf};
 pub fn is_text(file: &[u8]) -> bool {
     let plain = |&byte: &u8| matches!(byte, b'\t' | b'\n' | b'\r' | 0x20..);
     let begins = || {
-        let (first, _) = split(lines(file).next().unwrap_or_default());
-        WORDS.iter().any(|word| first == word.name.as_bytes())
+        let first = lines(file).next().unwrap_or_default();
+        WORDS.iter().any(|word| word.behind(first).is_some())
     };
     !file.is_empty() && file.iter().all(plain) && (file.len() < RAM + STORE || begins())
 }
@@ -95,6 +95,17 @@ pub fn split(line: &[u8]) -> (&[u8], &[u8]) {
     (&line[..end], trimmed(&line[end..]))
 }
 
+/// The word that a line begins with, or two where some word has two and begins so.
+fn name_of(line: &[u8]) -> &[u8] {
+    let (first, rest) = split(line);
+    let begun = |word: &Word| word.name.split_once(' ').map(|(begun, _)| begun.as_bytes());
+    if rest.is_empty() || WORDS.iter().all(|word| begun(word) != Some(first)) {
+        return first;
+    }
+    let (second, _) = split(rest);
+    &line[..line.len() - rest.len() + second.len()]
+}
+
 pub fn shown(bytes: &[u8]) -> String {
     String::from_utf8_lossy(bytes).into_owned()
 }
@@ -113,11 +124,10 @@ pub struct Making<'a, 'b> {
 impl Making<'_, '_> {
     /// What a line adds.
     fn add(&mut self, line: &[u8]) -> Result<(), Failure> {
-        let (name, rest) = split(line);
-        let named = |word: &&Word| name == word.name.as_bytes();
-        let Some(word) = WORDS.iter().find(named) else {
+        let found = |word: &'static Word| word.behind(line).map(|rest| (word, rest));
+        let Some((word, rest)) = WORDS.iter().find_map(found) else {
             let names: Vec<&str> = WORDS.iter().map(|word| word.name).collect();
-            let (name, names) = (shown(name), names.join(", "));
+            let (name, names) = (shown(name_of(line)), names.join(", "));
             return Err(self.bad(format!("'{name}' is none of the words {names}")));
         };
         let line = word
@@ -192,6 +202,14 @@ impl Making<'_, '_> {
     pub fn each(&mut self, op: u8, values: &[u8]) -> Result<(), Failure> {
         let mut values = values.iter();
         values.try_for_each(|&value| self.call(op, 0, value.into()))
+    }
+
+    /// A start, with the bytes of its table put where they wait for it.
+    pub fn table(&mut self, table: Table) -> Result<(), Failure> {
+        for (place, byte) in (0..).zip(table.bytes()) {
+            self.call(b'T', place, byte.into())?;
+        }
+        self.call(b'S', 0, 0)
     }
 
     pub fn lines(&mut self, line: &Line) -> Result<(), Failure> {

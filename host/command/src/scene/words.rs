@@ -3,7 +3,7 @@
 use super::text::{shown, split, Making};
 use crate::failure::Failure;
 use crate::numbers::{decimal, hexadecimal};
-use plus::UNLOCK;
+use plus::{Table, UNLOCK};
 use std::ffi::OsStr;
 use std::os::unix::ffi::OsStrExt;
 use std::path::{Path, PathBuf};
@@ -35,6 +35,20 @@ pub const WORDS: &[Word] = &[
         making.lines(line)
     }),
     word("undo", &[], |making, _| making.call(b'U', 0, 0)),
+    word("picture poke", &[ADDRESS, BYTE], |making, line| {
+        making.call(b'w', line.number(0), line.number(1))
+    }),
+    word("picture peek", &[ADDRESS], |making, line| {
+        making.call(b'r', line.number(0), 0xFF)
+    }),
+    word("picture undo", &[], |making, _| making.call(b'u', 0, 0)),
+    word("table", &[PALETTE, SPRITES, CHANNELS], |making, line| {
+        making.table(Table {
+            palette: line.number(0),
+            sprites: line.number(1) as u16,
+            channels: line.number(2) as u8,
+        })
+    }),
     word("export", &[], |making, _| making.call(b'E', 0, 0)),
     word("acknowledge", &[], |making, _| making.call(b'A', 0, 0)),
     word("draw", &[], |making, _| making.call(b'P', 0, 0)),
@@ -45,16 +59,27 @@ pub const WORDS: &[Word] = &[
 ];
 
 const ADDRESS: Argument = argument("ADDRESS", "one to four hexadecimal digits", |digits| {
-    hexadecimal(digits, 4).map(u32::from)
+    hexadecimal(digits, 4)
 });
 const BYTE: Argument = argument("BYTE", "one or two hexadecimal digits", |digits| {
-    hexadecimal(digits, 2).map(u32::from)
+    hexadecimal(digits, 2)
 });
 /// What the processor does at the 8255, as the value of the runner's `L` has it.
 const ACCESSES: Argument = Argument {
     name: "[BYTE]",
     ..BYTE
 };
+/// The picture editor's palette entries, sprites and channels, a bit each.
+const PALETTE: Argument = argument("PALETTE", "one to eight hexadecimal digits", |digits| {
+    hexadecimal(digits, 8)
+});
+const SPRITES: Argument = Argument {
+    name: "SPRITES",
+    ..ADDRESS
+};
+const CHANNELS: Argument = argument("CHANNELS", "a number from 0 to 7", |digits| {
+    decimal(digits, 7)
+});
 const REGISTER: Argument = argument("REGISTER", "a number from 0 to 31", |digits| {
     decimal(digits, 31)
 });
@@ -68,7 +93,7 @@ const PRESCALE: Argument = argument("PRESCALE", "a number from 0 to 255", |digit
 /// The rest of the line, since a name may have blanks.
 const FILE: Argument = argument("FILE", "a file's name", |_| None);
 
-/// A word of the language.
+/// A word of the language, or two.
 pub struct Word {
     pub name: &'static str,
     arguments: &'static [Argument],
@@ -117,6 +142,14 @@ impl Line {
 }
 
 impl Word {
+    /// What stands behind the word on a line that begins with it.
+    pub fn behind<'a>(&self, line: &'a [u8]) -> Option<&'a [u8]> {
+        self.name.split(' ').try_fold(line, |line, part| {
+            let (first, rest) = split(line);
+            (first == part.as_bytes()).then_some(rest)
+        })
+    }
+
     /// What stands behind the word taken apart, with its file in a folder. Or why
     /// it isn't what the word takes.
     pub fn parsed(&self, folder: &Path, rest: &[u8]) -> Result<Line, String> {

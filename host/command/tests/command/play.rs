@@ -1,7 +1,7 @@
 //! `plus play`.
 
 use crate::tools::{exported, hexadecimal, plus, repository, Folder};
-use plus::{RAM, STORE, UNLOCK};
+use plus::{RAM, STORE, TABLE, UNLOCK};
 use std::fs;
 use std::os::unix::fs::symlink;
 use std::path::Path;
@@ -62,6 +62,10 @@ fn image() -> Vec<u8> {
     ram
 }
 
+/// What wrong use is told in the end.
+const USAGE: &str = "usage: plus play RAM STORE TAKE [AFTER] [--table FILE]\n\
+                     `plus help play` says more\n";
+
 /// What that prints, worked out by hand.
 fn printed() -> String {
     let held = [
@@ -89,7 +93,7 @@ crtc selected=2 r1=40 r4=38 r5=0 r6=25 r9=7 r12=48 r13=0
 line vc=0 rc=0 adjust=0 address=3000 held=1 split=1234
 interrupts raster=0 last_raster=1
 gate mode=1 mapped=1 unlocked=1
-undo 9
+undo 9 0
 export {}
 ",
         hexadecimal(&exported(&held))
@@ -130,7 +134,7 @@ crtc selected=0 r1=0 r4=0 r5=0 r6=0 r9=0 r12=0 r13=0
 line vc=0 rc=0 adjust=0 address=0000 held=0 split=0000
 interrupts raster=0 last_raster=0
 gate mode=0 mapped=0 unlocked=0
-undo 0
+undo 0 0
 export {export}
 "
     ));
@@ -159,12 +163,22 @@ fn an_input_is_never_written() {
     let link = folder.place("link");
     symlink(&store, &link).unwrap();
     for after in [&ram, &store, &take_file, &link] {
-        let said = format!(
-            "plus: play: '{after}' is an input\nusage: plus play RAM STORE TAKE [AFTER]\n\
-             `plus help play` says more\n"
-        );
+        let said = format!("plus: play: '{after}' is an input\n{USAGE}");
         plus(["play", &ram, &store, &take_file, after]).fails(2, &said);
     }
+    // The table is one too, by whatever name.
+    let table = folder.file("table", &[1; TABLE]);
+    symlink(&table, folder.place("second")).unwrap();
+    for after in [table.clone(), folder.place("second")] {
+        for words in [
+            ["play", &ram, &store, &take_file, &after, "--table", &table],
+            ["play", "--table", &table, &ram, &store, &take_file, &after],
+        ] {
+            let said = format!("plus: play: '{after}' is an input\n{USAGE}");
+            plus(words).fails(2, &said);
+        }
+    }
+    assert_eq!(fs::read(&table).unwrap(), [1; TABLE]);
     assert_eq!(fs::read(&ram).unwrap(), image());
     assert_eq!(fs::read(&store).unwrap(), [0x0A; STORE]);
     assert_eq!(fs::read(&take_file).unwrap(), take(&records()));
@@ -217,6 +231,85 @@ fn what_is_refused_leaves_every_file() {
     assert!(!Path::new(&new).exists());
     assert_eq!(fs::read(&old).unwrap(), b"a store");
     assert_eq!(fs::read(&store).unwrap(), [0x0A; STORE]);
+}
+
+/// A take of two editors, whose table is lent: which calls are refused with 15, and
+/// what each can undo, tells whose everything was.
+#[test]
+fn the_table_of_the_starts() {
+    let folder = Folder::new();
+    let [ram, store, _] = inputs(&folder);
+    let mut records: Vec<_> = UNLOCK.iter().map(|&byte| (0, 1, 0, byte)).collect();
+    records.extend([(0, 3, 0, 0xB8), (0, 9, 0, 0)]);
+    // Entry 9, sprite 9 and channel 2, by each of them; PRI is the picture editor's.
+    for address in [0x6413, 0x604A, 0x4955, 0x6C0A, 0x6800] {
+        records.extend([(0, 4, address, 5), (0, 7, address, 6)]);
+    }
+    records.extend([(1, 8, 0, 0), (1, 6, 0, 0), (1, 6, 0, 0)]);
+    let take = folder.file("two", &take(&records));
+    // The table's bytes; how often an undo finds nothing, what is left to undo, and
+    // the pixel, which goes back where it is one of the song editor's last two.
+    for (table, ten, undo, pixel) in [
+        ([0, 0, 0, 0, 0, 0, 0], 0, "2 0", 0x0A),
+        ([0, 2, 0, 0, 0, 2, 4], 2, "0 4", 6),
+        ([0, 2, 0, 0, 0, 0, 0], 0, "1 1", 0x0A),
+        ([0, 0, 0, 0, 0, 2, 0], 0, "0 2", 6),
+        ([0, 0, 0, 0, 0, 0, 0xFC], 0, "1 1", 0x0A),
+        ([0xFF, 0xFD, 0xFF, 0xFF, 0xFF, 0xFD, 0xFB], 0, "2 0", 0x0A),
+    ] {
+        let file = folder.file("table", &table);
+        let after = folder.place("after");
+        let ran = plus(["play", &ram, &store, &take, "--table", &file, &after]);
+        assert_eq!((ran.status, &*ran.err), (Some(0), ""));
+        let line = |name: &str| {
+            let mut lines = ran.out.lines();
+            lines
+                .find_map(|line| line.strip_prefix(name))
+                .map(str::to_string)
+        };
+        assert_eq!(line("counted 15 "), Some("5".into()), "{table:?}");
+        let expected = (ten > 0).then(|| ten.to_string());
+        assert_eq!(line("counted 10 "), expected, "{table:?}");
+        assert_eq!(line("undo "), Some(undo.into()), "{table:?}");
+        assert_eq!(fs::read(&after).unwrap()[0x955], pixel, "{table:?}");
+        // One of zeros is what is taken where none is given.
+        if table == [0; TABLE] {
+            plus(["play", &ram, &store, &take]).prints(&ran.out);
+        }
+    }
+}
+
+#[test]
+fn a_table_of_another_length_is_wrong_use() {
+    let folder = Folder::new();
+    let [ram, store, take] = inputs(&folder);
+    let old = folder.file("old", b"a store");
+    for length in [0, 1, 6, 8, 4096] {
+        let table = folder.file("table", &vec![0; length]);
+        let said = format!("plus: play: '{table}' is not a table of 7 bytes\n{USAGE}");
+        plus(["play", &ram, &store, &take, &old, "--table", &table]).fails(2, &said);
+    }
+    for (words, wrong) in [
+        (
+            &["play", &ram, &store, &take, "--table"][..],
+            "FILE is missing",
+        ),
+        (&["play", &ram, &store, "--table", &old], "TAKE is missing"),
+        (
+            &["play", &ram, &store, &take, "--table", "a", "--table", "b"],
+            "--table is given twice",
+        ),
+        (
+            &["play", &ram, &store, &take, &old, "x", "--table", "a"],
+            "'x' is one argument too many",
+        ),
+    ] {
+        plus(words).fails(2, &format!("plus: play: {wrong}\n{USAGE}"));
+    }
+    let missing = folder.place("missing");
+    let said = format!("{missing}: No such file or directory (os error 2)\n");
+    plus(["play", &ram, &store, &take, "--table", &missing]).fails(1, &said);
+    assert_eq!(fs::read(&old).unwrap(), b"a store");
 }
 
 #[test]

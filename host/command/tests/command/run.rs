@@ -4,7 +4,11 @@ use crate::tools::{command, exported, hexadecimal, plus, repository, Folder, Ran
 use plus::{RAM, STORE, UNLOCK};
 use std::fs::{self, File};
 use std::io;
+use std::os::unix::fs::symlink;
 use std::path::Path;
+
+/// What wrong use is told in the end.
+const USAGE: &str = "usage: plus run FILE [--take OUT] [--table FILE]\n`plus help run` says more\n";
 
 /// A stored input, and the stored output: what the proved runner prints on it.
 fn stored(name: &str) -> (Vec<u8>, String) {
@@ -15,9 +19,11 @@ fn stored(name: &str) -> (Vec<u8>, String) {
 
 #[test]
 fn prints_what_the_proved_runner_prints() {
-    let (_, expected) = stored("tests/runner/mixed.");
-    let input = repository("tests/runner/mixed.in");
-    plus(["run".as_ref(), input.as_os_str()]).prints(&expected);
+    for name in ["mixed", "editors"] {
+        let (_, expected) = stored(&format!("tests/runner/{name}."));
+        let input = repository(&format!("tests/runner/{name}.in"));
+        plus(["run".as_ref(), input.as_os_str()]).prints(&expected);
+    }
     // One with unknown letters, which are told after all is printed.
     let (_, expected) = stored("tests/runner/bad.");
     let input = repository("tests/runner/bad.in");
@@ -92,6 +98,77 @@ fn each_letter() {
     assert_eq!(ran.out, lines.concat().join("\n") + "\n");
     let said = format!("{file}: record number 40 has the unknown letter 'x'\n");
     assert_eq!((ran.status, ran.err), (Some(1), said));
+}
+
+/// The letters of the two editors and of the start, with their lines worked out by
+/// hand.
+#[test]
+fn each_letter_of_the_editors() {
+    let scene = Scene::new()
+        .each('B', &UNLOCK)
+        .record('G', 0, 0xB8)
+        // Without a table both write everything, and each undoes its own.
+        .record('W', 0x6400, 0x11)
+        .record('w', 0x6400, 0x22)
+        .record('U', 0x1234, 0x56)
+        .record('r', 0x6400, 0x99)
+        .record('U', 0, 0)
+        .record('u', 0x1234, 0x56)
+        .record('R', 0x6400, 0x99)
+        // Entry 9, sprite 8 and channels 0 and 2 are the picture editor's.
+        .record('T', 1, 0x02)
+        .record('T', 5, 0x01)
+        .record('T', 6, 0xFD)
+        // Nowhere, and a place that no table has.
+        .record('T', 16, 0xFF)
+        .record('T', 0x0106, 0xFF)
+        .record('T', 0xFFFF, 0xFF)
+        .record('T', 15, 0xFF)
+        .record('S', 0x1234, 0x56)
+        .record('W', 0x6412, 1)
+        .record('w', 0x6412, 1)
+        .record('W', 0x6400, 1)
+        .record('w', 0x6400, 1)
+        .record('w', 0x4800, 1)
+        .record('W', 0x4700, 1)
+        .record('w', 0x6805, 1)
+        .record('W', 0x6804, 1)
+        .record('w', 0x6808, 1)
+        .record('w', 0x6C0F, 0x07)
+        .record('R', 0x6C00, 0)
+        .record('r', 0x6C00, 0)
+        .record('r', 0x3FFF, 0)
+        // The bytes that wait are still there; the records are empty after it.
+        .record('S', 0, 0)
+        .record('u', 0, 0)
+        .record('W', 0x6412, 1)
+        .record('T', 1, 0x00)
+        .record('S', 0, 0)
+        .record('W', 0x6412, 1)
+        // A reset clears them, and the table.
+        .record('Z', 0, 0)
+        .each('B', &UNLOCK)
+        .record('G', 0, 0xB8)
+        .record('W', 0x6805, 1)
+        .record('S', 0, 0)
+        .record('W', 0x6C02, 1)
+        .record('w', 0x4800, 1)
+        .record('t', 0, 0);
+    let lines = [
+        &["0"; 18][..],
+        &["0", "0", "0", "0 0", "10", "0", "0 17"],
+        &["0"; 8],
+        &["15", "0", "0", "15", "0", "0", "15", "15", "9"],
+        &["0", "0 0", "0 5", "2 0"],
+        &["0", "10", "15", "0", "0", "0"],
+        &["0"; 1 + 17 + 1],
+        &["0", "0", "0", "15", "bad"],
+    ];
+    let folder = Folder::new();
+    let file = folder.file("editors.scene", &scene.bytes());
+    let ran = plus(["run", &file]);
+    assert_eq!(ran.out, lines.concat().join("\n") + "\n");
+    assert_eq!(ran.status, Some(1));
 }
 
 /// All is printed, and the first is told, by what it is; beside it that the scene
@@ -240,6 +317,165 @@ fn a_take_of_every_served_call() {
     }
 }
 
+/// A scene of two editors whose starts give one table, and the records after its
+/// unlocking.
+fn of_editors(tables: &[[u8; 7]]) -> (Scene, &'static str) {
+    let mut scene = Scene::new().each('B', &UNLOCK).record('G', 0, 0xB8);
+    for table in tables {
+        for (place, byte) in (0..).zip(*table) {
+            scene = scene.record('T', place, byte);
+        }
+        scene = scene.record('S', 9, 9).record('L', 0, 0);
+    }
+    let scene = scene
+        .record('W', 0x6C02, 3)
+        .record('w', 0x6C06, 4)
+        .record('w', 0x6C02, 5)
+        .record('U', 9, 9)
+        .record('L', 0, 0)
+        .record('u', 9, 9)
+        .record('r', 0x6C00, 9);
+    (scene, "4 27650 3\n7 27654 4\n6 0 0\n8 0 0\n")
+}
+
+#[test]
+fn a_take_of_both_editors_and_their_table() {
+    let folder = Folder::new();
+    // The second gives the same owners, by a bit that doesn't count.
+    let tables = [[1, 2, 3, 4, 5, 6, 0xFA], [1, 2, 3, 4, 5, 6, 0x02]];
+    let (scene, calls) = of_editors(&tables);
+    let file = folder.file("editors.scene", &scene.bytes());
+    let printed = plus(["run", &file]);
+    assert_eq!(printed.status, Some(0));
+    let (out, table) = (folder.place("take"), folder.place("table"));
+    plus(["run", &file, "--table", &table, "--take", &out]).prints(&printed.out);
+    assert_eq!(fs::read(&table).unwrap(), tables[0]);
+    let records = plus(["records", &out]).out;
+    let kinds: Vec<&str> = records.lines().skip(1 + 18).collect();
+    let mut calls = calls.lines();
+    let mut next = |line: u32| format!("{line} {}", calls.next().unwrap());
+    let expected = [
+        "0 9 0 0".to_string(),
+        "1 9 0 0".to_string(),
+        next(2),
+        next(2),
+        next(2),
+        next(3),
+    ];
+    assert_eq!(kinds, expected);
+    // Played with that table nothing is refused, and with none some calls are.
+    let (ram, store) = (
+        folder.file("ram", &[0; RAM]),
+        folder.file("store", &[0; STORE]),
+    );
+    let played = |words: &[&str]| {
+        let ran = plus([&["play", &ram, &store, &out], words].concat());
+        assert_eq!(ran.status, Some(0));
+        ran.out.contains("counted ")
+    };
+    assert!(!played(&["--table", &table]));
+    assert!(played(&[]));
+    // In the place of a longer file, and with the take alone.
+    fs::write(&table, [7; 100]).unwrap();
+    plus(["run", &file, "--take", &out, "--table", &table]).prints(&printed.out);
+    assert_eq!(fs::read(&table).unwrap(), tables[0]);
+    let before = fs::read(&out).unwrap();
+    plus(["run", &file, "--take", &out]).prints(&printed.out);
+    assert_eq!(fs::read(&out).unwrap(), before);
+}
+
+#[test]
+fn no_start_is_a_table_of_zeros() {
+    let folder = Folder::new();
+    let file = folder.file("none.scene", &of_editors(&[]).0.bytes());
+    let (out, table) = (folder.place("take"), folder.place("table"));
+    let ran = plus(["run", &file, "--take", &out, "--table", &table]);
+    assert_eq!(ran.status, Some(0));
+    assert_eq!(fs::read(&table).unwrap(), [0; 7]);
+}
+
+/// By its palette entries, its sprites or its channels.
+#[test]
+fn two_tables_have_no_take() {
+    let folder = Folder::new();
+    let (new, old) = (folder.place("new"), folder.file("old", b"a take"));
+    for place in 0..7 {
+        let mut other = [1, 2, 3, 4, 5, 6, 2];
+        other[place] ^= 4;
+        let (scene, _) = of_editors(&[[1, 2, 3, 4, 5, 6, 2], other, [1, 2, 3, 4, 5, 6, 2]]);
+        let file = folder.file("two.scene", &scene.bytes());
+        let said = format!("{file}: no take: the starts give two tables\n");
+        plus(["run", &file, "--take", &old]).fails(1, &said);
+        plus(["run", &file, "--take", &old, "--table", &new]).fails(1, &said);
+        plus(["run", &file, "--take", &new, "--table", &old]).fails(1, &said);
+        assert_eq!(plus(["run", &file]).status, Some(0));
+    }
+    assert!(!Path::new(&new).exists());
+    assert_eq!(fs::read(&old).unwrap(), b"a take");
+}
+
+#[test]
+fn wrong_use_of_the_table() {
+    let folder = Folder::new();
+    let file = folder.file("editors.scene", &of_editors(&[]).0.bytes());
+    let (new, old) = (folder.place("new"), folder.file("old", b"a table"));
+    symlink("old", folder.place("link")).unwrap();
+    symlink("new", folder.place("later")).unwrap();
+    let link = folder.place("link");
+    let one = |path: &str| format!("'{path}' is given for take and table");
+    for (words, wrong) in [
+        (
+            &["run", &file, "--table", &old][..],
+            "--table goes with --take".into(),
+        ),
+        (&["run", "--table", &old], "FILE is missing".into()),
+        (
+            &["run", &file, "--take", &new, "--table"],
+            "FILE is missing".into(),
+        ),
+        (
+            &["run", &file, "--take", &new, "--table", &file],
+            format!("'{file}' is an input"),
+        ),
+        (&["run", &file, "--take", &old, "--table", &old], one(&old)),
+        (&["run", &file, "--take", &old, "--table", &link], one(&old)),
+        (
+            &["run", &file, "--take", &link, "--table", &old],
+            one(&link),
+        ),
+        (&["run", &file, "--take", &new, "--table", &new], one(&new)),
+        (
+            &[
+                "run",
+                &file,
+                "--take",
+                &new,
+                "--table",
+                &folder.place("./new"),
+            ],
+            one(&new),
+        ),
+        (
+            &[
+                "run",
+                &file,
+                "--take",
+                &new,
+                "--table",
+                &folder.place("later"),
+            ],
+            one(&new),
+        ),
+    ] {
+        plus(words).fails(2, &format!("plus: run: {wrong}\n{USAGE}"));
+    }
+    assert!(!Path::new(&new).exists());
+    assert_eq!(fs::read(&old).unwrap(), b"a table");
+    // What is no file is no place that could be lost.
+    let ran = plus(["run", &file, "--take", "/dev/null", "--table", "/dev/null"]);
+    assert_eq!(ran.status, Some(0));
+}
+
 #[test]
 fn an_empty_scene_has_an_empty_take() {
     let folder = Folder::new();
@@ -288,12 +524,17 @@ fn a_scene_that_ends_early_saves_no_take() {
         bytes.truncate(bytes.len() - cut);
         let file = folder.file("cut.scene", &bytes);
         let old = folder.file("old", b"a take");
-        let (ran, alone) = (plus(["run", &file, "--take", &old]), plus(["run", &file]));
+        let table = folder.place("table");
+        let (ran, alone) = (
+            plus(["run", &file, "--take", &old, "--table", &table]),
+            plus(["run", &file]),
+        );
         assert_eq!(
             (ran.status, ran.out, ran.err),
             (Some(1), alone.out, alone.err)
         );
         assert_eq!(fs::read(&old).unwrap(), b"a take");
+        assert!(!Path::new(&table).exists());
     }
 }
 
@@ -309,10 +550,14 @@ fn a_take_is_saved_before_anything_is_printed() {
     let ran = command(words).stdout(writer).output().unwrap();
     assert_eq!(ran.status.code(), Some(0));
     assert_eq!(plus(["records", &out]).out.lines().count(), 1 + 17 + 8);
-    // Where it can't be written, nothing is printed.
+    // Where it can't be written, nothing is printed; nor where the table can't, and
+    // then the take is left alone.
     let nowhere = folder.place("missing/out");
     let said = format!("{nowhere}: No such file or directory (os error 2)\n");
     plus(["run", &file, "--take", &nowhere]).fails(1, &said);
+    let old = folder.file("old", b"a take");
+    plus(["run", &file, "--take", &old, "--table", &nowhere]).fails(1, &said);
+    assert_eq!(fs::read(&old).unwrap(), b"a take");
 }
 
 #[test]
@@ -320,7 +565,6 @@ fn wrong_use_of_the_option() {
     let folder = Folder::new();
     let file = folder.file("recorded.scene", &recorded().0.bytes());
     let old = folder.file("old", b"a take");
-    let usage = "usage: plus run FILE [--take OUT]\n`plus help run` says more";
     for (words, wrong) in [
         (&["run", &file, "--take"][..], "OUT is missing"),
         (&["run", "--take", &old], "FILE is missing"),
@@ -340,7 +584,7 @@ fn wrong_use_of_the_option() {
         ),
     ] {
         let wrong = wrong.replace("OLD", &format!("'{old}'"));
-        plus(words).fails(2, &format!("plus: run: {wrong}\n{usage}\n"));
+        plus(words).fails(2, &format!("plus: run: {wrong}\n{USAGE}"));
     }
     let said = "plus: frame: there is no option '--take'\n";
     let ran = plus(["frame", &file, &old, "--take", "x"]);

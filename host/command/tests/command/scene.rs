@@ -21,6 +21,9 @@ fn made(folder: &Folder, text: &str) -> Vec<u8> {
     scene
 }
 
+/// What `plus run` is given.
+const RUN: &str = "FILE [--take OUT] [--table FILE]";
+
 /// What wrong use is told, of a command.
 fn wrong(command: &str, usage: &str, what: &str) -> String {
     format!(
@@ -36,6 +39,13 @@ fn folder() -> Folder {
     folder.file("song", &[0x38, 0x07, 0x02, 0x10, 0x20, 0x40]);
     folder.file("name with blanks", &[9]);
     folder
+}
+
+/// The bytes of a table put where they wait, and the start.
+fn with_table(bytes: [u8; 7]) -> Scene {
+    let put = |scene: Scene, (place, byte)| scene.record('T', place, byte);
+    let waiting = (0..).zip(bytes).fold(Scene::new(), put);
+    waiting.record('S', 0, 0)
 }
 
 #[test]
@@ -62,6 +72,21 @@ fn each_word() {
         ("lines 3", Scene::new().each('L', &[0, 0, 0])),
         ("lines 2 2a", Scene::new().each('L', &[0x2A, 0x2A])),
         ("undo", Scene::new().each('U', &[0])),
+        (
+            "picture poke 6400 1f",
+            Scene::new().record('w', 0x6400, 0x1F),
+        ),
+        (
+            "picture  peek\t6C0F # its channels",
+            Scene::new().record('r', 0x6C0F, 0xFF),
+        ),
+        ("picture undo", Scene::new().each('u', &[0])),
+        ("table 0 0 0", with_table([0; 7])),
+        (
+            "table AAAAaaaa Ff00 5",
+            with_table([0xAA, 0xAA, 0xAA, 0xAA, 0x00, 0xFF, 5]),
+        ),
+        ("table 12345 6 7", with_table([0x45, 0x23, 1, 0, 6, 0, 7])),
         ("export", Scene::new().each('E', &[0])),
         ("acknowledge", Scene::new().each('A', &[0])),
         ("draw", Scene::new().each('P', &[0])),
@@ -200,12 +225,49 @@ fn bad_lines() {
     let folder = folder();
     folder.file("odd", &[1, 2, 3]);
     folder.file("store", &[7; STORE + 1]);
-    let names = "ram, list, pixels, unlock, map, poke, peek, crtc, mode, lines, undo, export, \
-                 acknowledge, draw, forecast, reset";
+    let names = "ram, list, pixels, unlock, map, poke, peek, crtc, mode, lines, undo, \
+                 picture poke, picture peek, picture undo, table, export, acknowledge, draw, \
+                 forecast, reset";
     let place = |name: &str| folder.place(name);
     for (line, why) in [
         ("jump 8000", format!("'jump' is none of the words {names}")),
         ("UNLOCK", format!("'UNLOCK' is none of the words {names}")),
+        ("picture", format!("'picture' is none of the words {names}")),
+        (
+            "picture map 1",
+            format!("'picture map' is none of the words {names}"),
+        ),
+        (
+            "picture poke 6400",
+            "picture poke takes ADDRESS BYTE, and BYTE is missing, one or two hexadecimal digits"
+                .into(),
+        ),
+        (
+            "picture undo 1",
+            "picture undo takes nothing, and '1' is too much".into(),
+        ),
+        (
+            "table 0 0",
+            "table takes PALETTE SPRITES CHANNELS, and CHANNELS is missing, a number from 0 to 7"
+                .into(),
+        ),
+        (
+            "table 123456789 0 0",
+            "table takes PALETTE SPRITES CHANNELS, and '123456789' is no PALETTE, one to eight \
+             hexadecimal digits"
+                .into(),
+        ),
+        (
+            "table 0 10000 0",
+            "table takes PALETTE SPRITES CHANNELS, and '10000' is no SPRITES, one to four \
+             hexadecimal digits"
+                .into(),
+        ),
+        (
+            "table 0 0 8",
+            "table takes PALETTE SPRITES CHANNELS, and '8' is no CHANNELS, a number from 0 to 7"
+                .into(),
+        ),
         (
             "unlock 1",
             "unlock takes nothing, and '1' is too much".into(),
@@ -308,7 +370,7 @@ fn bad_lines() {
             for out in [&new, &old] {
                 plus(["scene", &text, out]).fails(2, &wrong("scene", "TEXT OUT", &what));
             }
-            plus(["run", &text]).fails(2, &wrong("run", "FILE [--take OUT]", &what));
+            plus(["run", &text]).fails(2, &wrong("run", RUN, &what));
             assert!(!Path::new(&new).exists());
             assert_eq!(fs::read(&old).unwrap(), b"a scene");
         }
@@ -387,8 +449,7 @@ fn an_output_that_the_text_names_is_wrong_use() {
         let out = folder.place(name);
         let what = format!("'{out}' is an input");
         plus(["scene", &text, &out]).fails(2, &wrong("scene", "TEXT OUT", &what));
-        let usage = "FILE [--take OUT]";
-        plus(["run", &text, "--take", &out]).fails(2, &wrong("run", usage, &what));
+        plus(["run", &text, "--take", &out]).fails(2, &wrong("run", RUN, &what));
         assert_eq!(fs::read(&out).unwrap(), contents);
     }
 }
@@ -418,6 +479,7 @@ fn the_examples() {
         ("undo", 101),
         ("split", 71),
         ("processor", 387),
+        ("editors", 291),
     ] {
         let text = repository(&format!("examples/{name}.scene"));
         let out = folder.place(name);

@@ -4,16 +4,19 @@ use crate::tools::plus;
 use std::ffi::OsStr;
 use std::os::unix::ffi::OsStrExt;
 
-/// Each command with its arguments, and its option last if it has one.
+/// Each command with its arguments, and its options last if it has some.
 const COMMANDS: [(&str, &[&str]); 11] = [
     ("forecast", &["FILE", "[START]", "[PRESCALE]"]),
     ("list", &["FILE", "[START]", "[--asm]"]),
     ("read", &["TEXT", "OUT"]),
     ("scene", &["TEXT", "OUT"]),
-    ("run", &["FILE", "[--take OUT]"]),
+    ("run", &["FILE", "[--take OUT]", "[--table FILE]"]),
     ("take", &["RECORDS", "OUT", "[COMMENT]"]),
     ("records", &["TAKE"]),
-    ("play", &["RAM", "STORE", "TAKE", "[AFTER]"]),
+    (
+        "play",
+        &["RAM", "STORE", "TAKE", "[AFTER]", "[--table FILE]"],
+    ),
     ("frame", &["FILE", "OUT.png"]),
     ("export", &["FILE", "OUT", "[--asm]"]),
     ("install", &["PREFIX"]),
@@ -22,19 +25,20 @@ const COMMANDS: [(&str, &[&str]); 11] = [
 const OVERVIEW: &str = "\
 usage: plus COMMAND ...
 
-  forecast FILE [START] [PRESCALE]   how long a sound list plays
-  list FILE [START] [--asm]          a sound list as text, a line a word
-  read TEXT OUT                      the words of such a text, into a file
-  scene TEXT OUT                     a scene, made from text
-  run FILE [--take OUT]              what each record of a scene answers
-  take RECORDS OUT [COMMENT]         a take, that is calls with their lines
-  records TAKE                       the records of a take
-  play RAM STORE TAKE [AFTER]        the chip that a take leads to
-  frame FILE OUT.png                 a picture of the frame after a scene
-  export FILE OUT [--asm]            what the registers hold after a scene
-  install PREFIX                     header, libraries, manual, this program
-  help [COMMAND]                     this, or all about one command
-  --version                          the version
+  forecast FILE [START] [PRESCALE]       how long a sound list plays
+  list FILE [START] [--asm]              a sound list as text, a line a word
+  read TEXT OUT                          the words of such a text, into a file
+  scene TEXT OUT                         a scene, made from text
+  run FILE [--take OUT] [--table FILE]   what each record of a scene answers
+  take RECORDS OUT [COMMENT]             a take, that is calls with their lines
+  records TAKE                           the records of a take
+  play RAM STORE TAKE [AFTER] [--table FILE]
+                                         the chip that a take leads to
+  frame FILE OUT.png                     a picture of the frame after a scene
+  export FILE OUT [--asm]                what the registers hold after a scene
+  install PREFIX                         header, libraries, manual, this program
+  help [COMMAND]                         this, or all about one command
+  --version                              the version
 ";
 
 fn usage(command: &str, arguments: &[&str]) -> String {
