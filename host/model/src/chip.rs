@@ -148,7 +148,7 @@ pub enum Editor {
     Picture,
 }
 
-/// Which of them may write each palette entry, sprite and channel: bit n is that of
+/// The owners of palette entries, sprites and channels: bit n is that of
 /// number n, and set for the picture editor.
 #[derive(Clone, Copy, Debug, Default, PartialEq, Eq)]
 pub struct Table {

@@ -127,7 +127,7 @@ fn a_bit_a_number<M: Machine>() {
     }
 }
 
-// An address with no register, or a read-only one, is nobody's.
+// Where nothing stands, or what stands there can only be read, nobody owns it.
 held!(nobodys, fails_with ConverterOfNobody, NothingOfNobody);
 fn nobodys<M: Machine>() {
     let mut chip = started::<M>();
@@ -448,7 +448,7 @@ fn undo_beside_the_other<M: Machine>() {
     assert_eq!(chip.state().video.split_high, 0);
 }
 
-// Demand 3: the processor's writes are those of both editors. A list on channel 0,
+// Demand 3, with writes of both editors between the lines. A list on channel 0,
 // the song editor's, plays its forecast whatever the picture editor writes to its
 // own; and IVR bit 0 stays, so that the interrupt does.
 held!(a_list_plays_beside_the_other, fails_with OthersEnabled);

@@ -152,7 +152,7 @@ fn each_kind_is_its_call<M: Machine>() {
     assert_eq!(replay.counts, counted(&[]));
 }
 
-// 02, L9: 7 and 8 are the second editor's 4 and 6, and 9 is the start, with the
+// 02, L9: kinds 7 and 8 are the picture editor's write and undo, 9 a start, with the
 // table that is lent. A 15 is counted at its place.
 held!(the_second_editors_kinds_and_the_start,
     fails_with PictureUndoOfSong, PictureWriteOfSong, TableNotLent);
