@@ -1,6 +1,53 @@
 //! Cores that go wrong in one rule each, to see that tests fail on them. The
 //! readings that document 01 has seen go astray are among them.
 
+use plus::{Answer, Chip, Editor};
+
+type Read = fn(&mut Chip, Editor, &[u8], u16, u8) -> (Answer, u8);
+type Write = fn(&mut Chip, Editor, &mut [u8], u16, u8) -> Answer;
+
+/// A fault of the page read: the read in its place.
+macro_rules! reads {
+    ($($(#[$about:meta])* $fault:ident: $read:expr;)+) => {$(
+        $(#[$about])*
+        pub struct $fault;
+
+        impl $crate::machine::Fault for $fault {
+            fn page_read(
+                chip: &mut plus::Chip,
+                editor: plus::Editor,
+                store: &[u8],
+                address: u16,
+                bus: u8,
+            ) -> (plus::Answer, u8) {
+                let read: $crate::fault::Read = $read;
+                read(chip, editor, store, address, bus)
+            }
+        }
+    )+};
+}
+
+/// A fault of the page write: the write in its place.
+macro_rules! writes {
+    ($($(#[$about:meta])* $fault:ident: $write:expr;)+) => {$(
+        $(#[$about])*
+        pub struct $fault;
+
+        impl $crate::machine::Fault for $fault {
+            fn page_write(
+                chip: &mut plus::Chip,
+                editor: plus::Editor,
+                store: &mut [u8],
+                address: u16,
+                byte: u8,
+            ) -> plus::Answer {
+                let write: $crate::fault::Write = $write;
+                write(chip, editor, store, address, byte)
+            }
+        }
+    )+};
+}
+
 mod drawing;
 mod editors;
 mod export;

@@ -26,27 +26,6 @@ fn turned(table: Held, palette: u32, sprites: u32) -> Held {
     }
 }
 
-/// A fault of the page read: the read in its place.
-macro_rules! reads {
-    ($($(#[$about:meta])* $fault:ident: $read:expr;)+) => {$(
-        $(#[$about])*
-        pub struct $fault;
-
-        impl Fault for $fault {
-            fn page_read(
-                chip: &mut Chip,
-                editor: Editor,
-                store: &[u8],
-                address: u16,
-                bus: u8,
-            ) -> (Answer, u8) {
-                let read: fn(&mut Chip, Editor, &[u8], u16, u8) -> (Answer, u8) = $read;
-                read(chip, editor, store, address, bus)
-            }
-        }
-    )+};
-}
-
 reads! {
     /// A DCSR read shows the channels of both editors.
     OthersChannelsShown: |chip, editor, store, address, bus| {
@@ -74,27 +53,6 @@ reads! {
             _ => chip.page_read(editor, store, address, bus),
         }
     };
-}
-
-/// A fault of the page write: the write in its place.
-macro_rules! writes {
-    ($($(#[$about:meta])* $fault:ident: $write:expr;)+) => {$(
-        $(#[$about])*
-        pub struct $fault;
-
-        impl Fault for $fault {
-            fn page_write(
-                chip: &mut Chip,
-                editor: Editor,
-                store: &mut [u8],
-                address: u16,
-                byte: u8,
-            ) -> Answer {
-                let write: fn(&mut Chip, Editor, &mut [u8], u16, u8) -> Answer = $write;
-                write(chip, editor, store, address, byte)
-            }
-        }
-    )+};
 }
 
 writes! {

@@ -27,55 +27,27 @@ fn undone_and(
     answer
 }
 
-/// Writes to DCSR are kept too.
-pub struct DcsrKept;
-
-impl Fault for DcsrKept {
-    fn page_write(
-        chip: &mut Chip,
-        editor: Editor,
-        store: &mut [u8],
-        address: u16,
-        byte: u8,
-    ) -> Answer {
+writes! {
+    /// Writes to DCSR are kept too.
+    DcsrKept: |chip, editor, store, address, byte| {
         let answer = chip.page_write(editor, store, address, byte);
         if answer == Answer::Done && address == 0x6C0F {
             keep_another(chip, editor);
         }
         answer
-    }
-}
+    };
 
-/// Refused writes are kept too.
-pub struct RefusedKept;
-
-impl Fault for RefusedKept {
-    fn page_write(
-        chip: &mut Chip,
-        editor: Editor,
-        store: &mut [u8],
-        address: u16,
-        byte: u8,
-    ) -> Answer {
+    /// Refused writes are kept too.
+    RefusedKept: |chip, editor, store, address, byte| {
         let answer = chip.page_write(editor, store, address, byte);
         if answer != Answer::Done {
             keep_another(chip, editor);
         }
         answer
-    }
-}
+    };
 
-/// A write that leaves everything as it was isn't kept.
-pub struct SameNotKept;
-
-impl Fault for SameNotKept {
-    fn page_write(
-        chip: &mut Chip,
-        editor: Editor,
-        store: &mut [u8],
-        address: u16,
-        byte: u8,
-    ) -> Answer {
+    /// A write that leaves everything as it was isn't kept.
+    SameNotKept: |chip, editor, store, address, byte| {
         let (before, pixels) = (**chip, store.to_vec());
         let answer = chip.page_write(editor, store, address, byte);
         let editing = chip.editing;
@@ -84,27 +56,17 @@ impl Fault for SameNotKept {
             chip.editing = editing;
         }
         answer
-    }
-}
+    };
 
-/// The record has 255 places.
-pub struct RecordOf255;
-
-impl Fault for RecordOf255 {
-    fn page_write(
-        chip: &mut Chip,
-        editor: Editor,
-        store: &mut [u8],
-        address: u16,
-        byte: u8,
-    ) -> Answer {
+    /// The record has 255 places.
+    RecordOf255: |chip, editor, store, address, byte| {
         let answer = chip.page_write(editor, store, address, byte);
         let editing = &mut chip.editing;
         for record in [&mut editing.song, &mut editing.picture] {
             record.count = record.count.min(255);
         }
         answer
-    }
+    };
 }
 
 /// A reset leaves the records.
