@@ -122,9 +122,7 @@ module _ (t : Table) (i : ℕ) (held : t .held ≡ true) (acknowledges : bit 0 i
   call-both w v (bc b) p q f s = select-both w v s b
   call-both w v (bd b) p q f s = over-both s (data-leaves w b) (data-leaves v b)
   call-both w v (gate b) p q f s = gate-both w v s b
-  call-both w v (read g a bus) p q f s =
-      over-both s (read-leaves held e w (p .stays) (p .owned) (p .widths .three) g a bus)
-      (read-leaves held e v (q .stays) (q .owned) (q .widths .three) g a bus)
+  call-both w v (read g a bus) p q f s = over-both s (read-leaves w g a bus) (read-leaves v g a bus)
   call-both w v (write g a b) p q f s = edit-both w v g a b (which e g) p q s
   call-both w v (undo g) p q f s = back-both w v g (which e g) p q s
   call-both w v ack p q f s = over-both s (acknowledge-leaves w (p .stays)) (acknowledge-leaves v (q .stays))
@@ -137,11 +135,11 @@ module _ (t : Table) (i : ℕ) (held : t .held ≡ true) (acknowledges : bit 0 i
       (w v : World) (c : Call) → PageCall e c → Known t i w → Known t i v → Fair t e c → Sight t e w v → replyTo w c ≡ replyTo v c
   reply-same w v c (reads a bus) p q f s =
       rw (
-        read-number held e w v (p .stays) (q .stays) (p .owned) s a,
+        read-number e w v s a,
         read-same t held e (s .blocks) (p .stays .table) (q .stays .table) (registerAt a) bus (f .reads a bus refl),
       )
-  reply-same w v c (writes a b) p q f s = rw (write-number held e w v (p .stays) (q .stays) (p .owned) s a)
-  reply-same w v c undoes p q f s = rw (undo-number held e w v (p .stays) (q .stays) (p .owned) s)
+  reply-same w v c (writes a b) p q f s = rw (write-number e w v s (p .stays) (q .stays) a)
+  reply-same w v c undoes p q f s = rw (undo-number e w v s)
 
   local : Local (Asked t i e) (Sight t e) (PageCall (other e)) (PageCall e)
   local =

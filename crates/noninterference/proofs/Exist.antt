@@ -13,50 +13,23 @@ use Rattle.chip.specs.Reset.{resetChip}
 use Rattle.chip.specs.Editors.{started}
 use Rattle.chip.proofs.start.reset.Reads as reset
 use Rattle.runs.specs.World.{World, Loan}
-use Rattle.runs.specs.Call.{Call, bc, bd, gate, read, write, undo, ack, line, start, lend, Typed, worldAfter}
+use Rattle.runs.specs.Call.{Call, write, start, Typed, worldAfter}
 use Rattle.runs.specs.Run.{Run, ended, on, Each, madeOver, worldOver}
 use Rattle.runs.specs.Pair.{Beside}
 use Rattle.runs.specs.Pair as pair
 use Rattle.runs.proofs.Calls.{AllPlaces, possible}
-use Rattle.runs.proofs.Runs.{Whole, WholeLoan, AllWhole, run-possible}
+use Rattle.runs.proofs.Runs.{Every, every, every-joined, each-made, WholeLoan, Whole, AllWhole, lends-whole, run-possible}
 use Rattle.noninterference.specs.TwoRuns.{PageCall, reads, writes, undoes, RamAlone, ram, HandsOn, Fair, Session}
 
 pub differ : {A : Type 0} → _≡_ {A = ℕ} 0 1 → A
 differ z = absurd (omega arith)
 
--- what holds of each call of a list
-abbrev pub Every : (Call → Type 0) → List Call → Type 0
-Every P [] = Unit {0}
-Every P (c ∷ cs) = P c × Every P cs
-
-pub every :
-    (P Q : Call → Type 0) → ((c : Call) → P c → Q c) → (cs : List Call) → Every P cs → Every Q cs
-every P Q f [] h = tt
-every P Q f (c ∷ cs) h = (f c (h .0), every P Q f cs (h .1))
-
-pub each-made : (P : Call → Type 0) (cs : List Call) (w : World) → Every P cs → Each (λ m. P (m .asks)) (madeOver w cs)
-each-made P [] w h = tt
-each-made P (c ∷ cs) w h = (h .0, each-made P cs (worldAfter w c) (h .1))
-
 -- where no places are lent, 256 of them stay
 ram-whole : (l : Loan) → RamAlone l → WholeLoan l
 ram-whole l (ram x) = tt
 
-hands-whole : (c : Call) → HandsOn c → Whole c
-hands-whole (bc b) h = tt
-hands-whole (bd b) h = tt
-hands-whole (gate b) h = tt
-hands-whole (read e a bus) h = tt
-hands-whole (write e a b) h = tt
-hands-whole (undo e) h = tt
-hands-whole ack h = tt
-hands-whole (line a) h = tt
-hands-whole (start o) h = tt
-hands-whole (lend l) h = ram-whole l (h .lends l refl)
-
-pub all-whole : (cs : List Call) → Every HandsOn cs → AllWhole cs
-all-whole [] h = tt
-all-whole (c ∷ cs) h = (hands-whole c (h .0), all-whole cs (h .1))
+pub all-whole : (w : World) (cs : List Call) → Every HandsOn cs → AllWhole cs
+all-whole w cs h = every HandsOn Whole (λ c x. lends-whole w c (λ l q. ram-whole l (x .lends l q))) cs h
 
 -- ---- a session
 
@@ -137,18 +110,14 @@ pub pairs-exist :
 pairs-exist t e w cs ds places a f g =
     let hands = every (Fair t e) HandsOn (λ c x. x .hands) in
     record {
-      first-run = run-possible cs w places (all-whole cs (hands cs f));
-      second-run = run-possible ds w places (all-whole ds (hands ds g));
+      first-run = run-possible cs w places (all-whole w cs (hands cs f));
+      second-run = run-possible ds w places (all-whole w ds (hands ds g));
       first-fair = each-made (Fair t e) cs w f;
       second-fair = each-made (Fair t e) ds w g;
       beside = beside-made w w a;
     }
 
 -- such are any calls of the other editor before the same calls
-before : (P : Call → Type 0) (cs hs : List Call) → Every P cs → Every P hs → Every P (cs ++ hs)
-before P [] hs h i = i
-before P (c ∷ cs) hs h i = (h .0, before P cs hs (h .1) i)
-
 same-calls : {Theirs : Call → Type 0} (hs : List Call) → Alike Theirs hs hs
 same-calls [] = none
 same-calls (h ∷ hs) = same (same-calls hs)
@@ -172,8 +141,8 @@ pub any-calls :
 any-calls t e w cs ds hs places h i f =
     let are = every (Theirs (other e)) (PageCall (other e)) (λ c x. x .is) in
     let fair = every (Theirs (other e)) (Fair t e) (λ c x. theirs-fair t e c (x .is) (x .typed)) in
-    pairs-exist t e w (cs ++ hs) (ds ++ hs) places (lefts cs ds hs (are cs h) (are ds i)) (before (Fair t e) cs hs (fair cs h) f)
-    (before (Fair t e) ds hs (fair ds i) f)
+    pairs-exist t e w (cs ++ hs) (ds ++ hs) places (lefts cs ds hs (are cs h) (are ds i)) (every-joined (Fair t e) cs hs (fair cs h) f)
+    (every-joined (Fair t e) ds hs (fair ds i) f)
 
 -- two runs in which the other editor's every write differs: 0 in the one, 1 in the other, at any addresses
 abbrev pub writesOf : Editor → ℕ → List ℕ → List Call

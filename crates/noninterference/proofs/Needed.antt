@@ -43,10 +43,10 @@ use Rattle.runs.specs.Run.{Made, Run, Each, madeOver, worldOver}
 use Rattle.runs.specs.Reached.{Reached}
 use Rattle.runs.specs.Pair.{Beside, ended, first, both as same}
 use Rattle.runs.proofs.Calls.{AllPlaces}
-use Rattle.runs.proofs.Runs.{run-possible}
+use Rattle.runs.proofs.Runs.{Every, every, each-made, run-possible}
 use Rattle.noninterference.specs.TwoRuns.{PageCall, reads, writes, ownOrDcsr, HandsOn, Fair, Session, Unaffected}
 use Rattle.noninterference.proofs.Claim.{noninterference}
-use Rattle.noninterference.proofs.Exist.{differ, Every, every, each-made, all-whole, theirs-fair}
+use Rattle.noninterference.proofs.Exist.{differ, all-whole, theirs-fair}
 
 -- the claim, by what is asked of the world where the two runs begin and of each of their calls
 pub record Claims (Begins : Table → World → Type 0) (Asks : Table → Editor → Call → Type 0) (t : Table) : Type 0 where
@@ -190,7 +190,7 @@ begins :
 unfolding resetChip
 begins l cs w s k q =
     let good = opens-good cs k in
-    let whole = all-whole (opensThen cs) (every Good HandsOn (λ c g. g .hands) (opensThen cs) good) in
+    let whole = all-whole (fresh l) (opensThen cs) (every Good HandsOn (λ c g. g .hands) (opensThen cs) good) in
     record {
       fresh = record { chip = refl; tracks = fresh-lock (resetChip .lock) refl .tracks };
       run = subst (λ v. Run (fresh l) (madeOver (fresh l) (opensThen cs)) v) q (run-possible (opensThen cs) (fresh l) (s .places) whole);
@@ -207,7 +207,7 @@ two-runs :
     Every (Asks t Song) ds → (b : Beside (PageCall Picture) (madeOver w cs) (madeOver w ds)) → Unaffected t Song w b
 two-runs {Asks = Asks} {t = t} claim hands w cs ds s p f g b =
     let on = every (Asks t Song) HandsOn hands in
-    claim .unaffected Song s (run-possible cs w p (all-whole cs (on cs f))) (run-possible ds w p (all-whole ds (on ds g)))
+    claim .unaffected Song s (run-possible cs w p (all-whole w cs (on cs f))) (run-possible ds w p (all-whole w ds (on ds g)))
     (each-made (Asks t Song) cs w f) (each-made (Asks t Song) ds w g) b
 
 abbrev shows : ℕ → Reply

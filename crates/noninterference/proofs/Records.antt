@@ -2,15 +2,14 @@
 use mathlib.Core.Path.{_≡_, refl, ap, _∙_}
 use mathlib.Core.Bool.{Bool, true, false}
 use mathlib.Core.List.{List, [], _∷_}
-use Prim.Native.Nat.{ℕ, zero, suc, _/_, _%_, _<_}
+use Prim.Native.Nat.{ℕ, zero, suc, _<_}
 use native.Mathlib.Omega.{arith}
-use borrow.Author.Tests.{eqb-true, eqb-false}
+use borrow.Author.Tests.{eqb-true}
 use lib.Dec.{eqb}
 use lib.ListN.{length, take}
 use Rattle.common.specs.Answers.{done}
 use Rattle.common.specs.Choice.{if}
 use Rattle.editors.specs.declared.Editor.{Editor}
-use Rattle.editors.specs.declared.Editor.the-variants.{Song, Picture}
 use Rattle.editors.specs.declared.Owners.{Owners}
 use Rattle.editors.specs.declared.Table.{Table}
 use Rattle.editors.specs.Table.{other, holding}
@@ -21,17 +20,17 @@ use Rattle.chip.specs.declared.Editing.{Editing}
 use Rattle.chip.specs.Reset.{resetChip}
 use Rattle.chip.specs.Editors.{undoOf, noEntries, started}
 use Rattle.chip.specs.Step.{stepped, countersStepped}
-use Rattle.chip.proofs.EditingLaws.{other-record}
+use Rattle.chip.proofs.EditingLaws.{other-record, started-none, reset-none, none-kept}
 use Rattle.registers.specs.declared.address.Register.{Register}
 use Rattle.registers.specs.declared.address.Register.the-variants.{Pixel, Sprite, Palette, Video, Ivr, Converter, Channel, Dcsr, Status, Empty}
 use Rattle.registers.specs.Address.{registerAt}
 use Rattle.registers.specs.Owners.{owns}
 use Rattle.registers.specs.Registers.{registerAnswer, registerWritten}
 use Rattle.contents.specs.Contents.{contents}
-use Rattle.page.specs.UndoRecord.{isKept, entryWith, entryAt, entryRegister, entryContents, recordIn}
+use Rattle.page.specs.UndoRecord.{isKept, entryAt, entryRegister, entryContents, recordIn}
 use Rattle.page.specs.Page.{pageWritten, recordAfter}
-use Rattle.page.specs.Undo.{undoAnswer, undone}
-use Rattle.page.proofs.UndoLaws.{served-register}
+use Rattle.page.specs.Undo.{undone}
+use Rattle.page.proofs.UndoLaws.{entry-register, undo-served, served-register}
 use Rattle.runs.specs.World.{World, placesOf, Loan}
 use Rattle.runs.specs.Call.{Call, write, undo, start, lend, Reply, Typed, answerTo, servedWorld, worldAfter}
 use Rattle.runs.specs.Run.{Made, Makes, Run, ended, on, Each}
@@ -89,10 +88,6 @@ own-may t e Dcsr h = clash h refl
 own-may t e Status h = clash h refl
 own-may t e Empty h = clash h refl
 
--- the register of the entry of a write
-pub entry-at : (c : Chip) (store : List ℕ) (a : ℕ) → a < 65536 → entryRegister (entryAt c store a) ≡ registerAt a
-entry-at c store a h = ap registerAt (let q : entryWith a (contents c store (registerAt a)) / 256 % 65536 ≡ a = omega arith in q)
-
 -- ---- what each call does to the records
 
 -- a write of the editor's
@@ -109,7 +104,7 @@ write-own {w} {v} {g} {a} {b} k small o = rw (written k .record-after) (go (eqb 
     go true h true kept =
         own-take 256
         (more
-        (rw (entry-at (w .chip) (w .lent .store) a small)
+        (rw (entry-register a (contents (w .chip) (w .lent .store) (registerAt a)) small)
         (may-own (w .chip .editing .table) g (registerAt a) (served-register (w .chip) g (length (w .lent .store)) a (eqb-true _ _ h)) kept))
         (o .each g))
     go true h false kept = o .each g
@@ -175,24 +170,13 @@ owned-by {v} {t} i f = record { each = λ g. go (v .chip .editing .table) i g }
 
 -- an empty record
 empty-own : {t : Table} {g : Editor} (x : Editing) (places : List ℕ) → undoOf x g ≡ noEntries → AllOwn t g (recordOf (undoOf x g) places)
-unfolding recordOf entries
-empty-own x places i = rw i none
-
-started-none : (g : Editor) (c : Chip) (o : Owners) → undoOf (started c o .editing) g ≡ noEntries
-unfolding started
-started-none Song c o = refl
-started-none Picture c o = refl
+empty-own {g = g} x places i = rw (none-kept g x places i) none
 
 pub reset-owned : {w : World} → w .chip ≡ resetChip → Owned w
-unfolding resetChip
 reset-owned {w} i = record { each = λ g. go (w .chip) i g }
   where
-    none-of : (g : Editor) → undoOf (resetChip .editing) g ≡ noEntries
-    none-of Song = refl
-    none-of Picture = refl
-
     go : (c : Chip) → c ≡ resetChip → (g : Editor) → AllOwn (c .editing .table) g (recordIn c g (placesOf (w .lent) g))
-    go c j g = rw j (empty-own (resetChip .editing) (placesOf (w .lent) g) (none-of g))
+    go c j g = rw j (empty-own (resetChip .editing) (placesOf (w .lent) g) (reset-none g))
 
 -- ---- so over every call
 
@@ -252,15 +236,6 @@ unfolding entries
 first-own t e places place zero h o = absurd (h refl)
 first-own t e places place (suc n) h (more w o) = w
 
-some-left : (c : Chip) (e : Editor) (size : ℕ) → undoAnswer c e size ≡ done → undoOf (c .editing) e .count ≡ 0 → ⊥
-unfolding undoAnswer
-some-left c e size h = go (eqb size 4096) (eqb (undoOf (c .editing) e .count) 0) refl h
-  where
-    go : (i j : Bool) → eqb (undoOf (c .editing) e .count) 0 ≡ j → _≡_ {A = ℕ} (if i (if j 10 0) 1) 0 → undoOf (c .editing) e .count ≡ 0 → ⊥
-    go true true p k = absurd (omega arith)
-    go true false p k = eqb-false _ _ p
-    go false j p k = absurd (omega arith)
-
 -- what a served undo takes back is a register that the editor may write
 pub newest-may :
     (t : Table) (w : World) (e : Editor) → AllOwn t e (recordOn w e) → answerTo w (undo e) ≡ done →
@@ -269,7 +244,7 @@ unfolding recordOf
 newest-may t w e o z =
     let u = undoOf (w .chip .editing) e in
     own-may t e (entryRegister (newestOf w e))
-    (first-own t e (placesOf (w .lent) e) (u .next) (u .count) (some-left (w .chip) e (length (w .lent .store)) z) o)
+    (first-own t e (placesOf (w .lent) e) (u .next) (u .count) (undo-served (w .chip) e (length (w .lent .store)) z .1) o)
 
 -- and what a served write writes
 pub written-may :

@@ -84,6 +84,10 @@ beside-editing :
     {t : Table} {e : Editor} {c d : Chip} {l m : List ℕ} (y : Editing) → Blocks t e c l d m → Blocks t e c l (withEditing d y) m
 beside-editing {c = c} {d = d} y v = blocks-as c (withEditing d y) v (v .mapped) (v .lock) (v .channels) refl refl refl refl refl refl
 
+-- a read leaves every sight
+pub read-leaves : {t : Table} {e : Editor} (w : World) (f : Editor) (a bus : ℕ) → Sight t e w (worldAfter w (read f a bus))
+read-leaves {t} {e} w f a bus = by-answer (Sight t e w) w (read f a bus) (λ z. sight-self w) (sight-self w)
+
 -- ---- the other editor's calls
 module _ {t : Table} {i : ℕ} (held : t .held ≡ true) (e : Editor) (w : World) (s : Stays t i w) (o : Owned w)
     (three : length (w .chip .sound .channels) ≡ 3) where
@@ -119,29 +123,30 @@ module _ {t : Table} {i : ℕ} (held : t .held ≡ true) (e : Editor) (w : World
       })
       (sight-self w)
 
-  pub read-leaves : (f : Editor) (a bus : ℕ) → Sight t e w (worldAfter w (read f a bus))
-  read-leaves f a bus = by-answer (Sight t e w) w (read f a bus) (λ z. sight-self w) (sight-self w)
-
   pub others-leave : (c : Call) → PageCall (other e) c → Sight t e w (worldAfter w c)
-  others-leave c (reads a bus) = read-leaves (other e) a bus
+  others-leave c (reads a bus) = read-leaves w (other e) a bus
   others-leave c (writes a b) = write-other a b
   others-leave c undoes = undo-other
 
--- ---- the editor's own calls, on both
-module _ {t : Table} {i j : ℕ} (held : t .held ≡ true) (e : Editor) (w v : World) (p : Stays t i w) (q : Stays t j v) (o : Owned w)
-    (s : Sight t e w v) where
+-- ---- the editor's own calls, on both: the same numbers
+module _ {t : Table} (e : Editor) (w v : World) (s : Sight t e w v) where
   pub read-number : (a : ℕ) → readAnswer (w .chip) (length (w .lent .store)) a ≡ readAnswer (v .chip) (length (v .lent .store)) a
   unfolding readAnswer pageAnswer
   read-number a = rw (s .blocks .mapped, s .blocks .pixels .size)
 
-  pub write-number : (a : ℕ) → writeAnswer (w .chip) e (length (w .lent .store)) a ≡ writeAnswer (v .chip) e (length (v .lent .store)) a
+  pub write-number :
+      {i j : ℕ} → Stays t i w → Stays t j v → (a : ℕ) →
+      writeAnswer (w .chip) e (length (w .lent .store)) a ≡ writeAnswer (v .chip) e (length (v .lent .store)) a
   unfolding writeAnswer pageAnswer
-  write-number a = rw (s .blocks .mapped, s .blocks .pixels .size, p .table, q .table)
+  write-number p q a = rw (s .blocks .mapped, s .blocks .pixels .size, p .table, q .table)
 
   pub undo-number : undoAnswer (w .chip) e (length (w .lent .store)) ≡ undoAnswer (v .chip) e (length (v .lent .store))
   unfolding undoAnswer
   undo-number = rw (s .blocks .pixels .size, s .undo-record)
 
+-- and the same work
+module _ {t : Table} {i j : ℕ} (held : t .held ≡ true) (e : Editor) (w v : World) (p : Stays t i w) (q : Stays t j v) (o : Owned w)
+    (s : Sight t e w v) where
   -- the entry of a write
   entries-same :
       (a : ℕ) → registerAnswer t e (registerAt a) ≡ done → isKept (registerAt a) ≡ true →
@@ -164,7 +169,7 @@ module _ {t : Table} {i j : ℕ} (held : t .held ≡ true) (e : Editor) (w v : W
   pub write-both : (a b : ℕ) → Sight t e (worldAfter w (write e a b)) (worldAfter v (write e a b))
   unfolding pageWritten
   write-both a b =
-      both-answer (Sight t e) w v (write e a b) (write-number a)
+      both-answer (Sight t e) w v (write e a b) (write-number e w v s p q a)
       (λ z.
       let h = written-may t w e a b (p .table) z in
       record {
@@ -184,7 +189,7 @@ module _ {t : Table} {i j : ℕ} (held : t .held ≡ true) (e : Editor) (w v : W
   pub undo-both : Sight t e (worldAfter w (undo e)) (worldAfter v (undo e))
   unfolding undone
   undo-both =
-      both-answer (Sight t e) w v (undo e) undo-number
+      both-answer (Sight t e) w v (undo e) (undo-number e w v s)
       (λ z.
       record {
         blocks = with-editing _ _ (go (newestOf v e) newest-same (newest-may t w e (own-as (p .table) o e) z));

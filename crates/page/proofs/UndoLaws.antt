@@ -4,6 +4,7 @@ use mathlib.Core.Bool.{Bool, true, false}
 use mathlib.Core.List.{List}
 use Prim.Native.Nat.{ℕ, _+_, _*_, _/_, _%_, _<_}
 use native.Mathlib.Omega.{arith}
+use borrow.Author.Tests.{eqb-true, eqb-false}
 use lib.Dec.{eqb, leb, ltb}
 use Rattle.common.specs.Answers.{done}
 use Rattle.common.specs.Choice.{if, both}
@@ -22,7 +23,7 @@ use Rattle.contents.specs.Widths.{Widths}
 use Rattle.contents.proofs.Back.{chip-back, store-back}
 use Rattle.page.specs.UndoRecord.{isKept, entryWith, entryRegister, entryContents, entryAt, undoAfter}
 use Rattle.page.specs.Page.{pageAnswer, writeAnswer, pageWritten}
-use Rattle.page.specs.Undo.{undone, storeUndone}
+use Rattle.page.specs.Undo.{undoAnswer, undone, storeUndone}
 use Rattle.page.proofs.HoldsAt.{holds-at}
 
 -- what is kept for the editors is no register
@@ -67,12 +68,23 @@ beside c ed u Status b = refl
 beside c ed u Empty b = refl
 
 -- what a write with an address and contents of a byte records
-module _ (a v : ℕ) (small : a < 65536) (byte : v < 256) where
-  pub entry-register : entryRegister (entryWith a v) ≡ registerAt a
-  entry-register = ap registerAt (let e : (a * 256 + v % 256) / 256 % 65536 ≡ a = omega arith in e)
+pub entry-register : (a v : ℕ) → a < 65536 → entryRegister (entryWith a v) ≡ registerAt a
+entry-register a v small = ap registerAt (let e : (a * 256 + v % 256) / 256 % 65536 ≡ a = omega arith in e)
 
-  pub entry-contents : entryContents (entryWith a v) ≡ v
-  entry-contents = omega arith
+pub entry-contents : (a v : ℕ) → v < 256 → entryContents (entryWith a v) ≡ v
+entry-contents a v byte = omega arith
+
+-- a served undo had a store of the right length, and something to take back
+pub undo-served : (c : Chip) (ed : Editor) (size : ℕ) → undoAnswer c ed size ≡ done → (size ≡ 4096) × (undoOf (c .editing) ed .count ≡ 0 → ⊥)
+unfolding undoAnswer
+undo-served c ed size h = go (eqb size 4096) refl (eqb (undoOf (c .editing) ed .count) 0) refl h
+  where
+    go :
+        (s : Bool) → eqb size 4096 ≡ s → (t : Bool) → eqb (undoOf (c .editing) ed .count) 0 ≡ t → _≡_ {A = ℕ} (if s (if t 10 0) 1) 0 →
+        (size ≡ 4096) × (undoOf (c .editing) ed .count ≡ 0 → ⊥)
+    go true e true f k = absurd (omega arith)
+    go true e false f k = (eqb-true _ _ e, eqb-false _ _ f)
+    go false e t f k = absurd (omega arith)
 
 -- a served write was to a register that the editor can write
 pub served-register : (c : Chip) (ed : Editor) (size a : ℕ) → writeAnswer c ed size a ≡ done →
@@ -97,8 +109,8 @@ module _ (c : Chip) (ed : Editor) (store : List ℕ) (a b : ℕ) (small : a < 65
   unfolding undone pageWritten
   chip-again =
       rw (
-        entry-register a (contents c store (registerAt a)) small v,
-        entry-contents a (contents c store (registerAt a)) small v,
+        entry-register a (contents c store (registerAt a)) small,
+        entry-contents a (contents c store (registerAt a)) v,
       )
       (again (registerAt a) (holds-at (c .editing .table) ed a there kept))
     where
@@ -120,7 +132,7 @@ module _ (c : Chip) (ed : Editor) (store : List ℕ) (a b : ℕ) (small : a < 65
   pub store-again : storeUndone (storeWritten store (registerAt a) b) (entryAt c store a) ≡ store
   store-again =
       rw (
-        entry-register a (contents c store (registerAt a)) small v,
-        entry-contents a (contents c store (registerAt a)) small v,
+        entry-register a (contents c store (registerAt a)) small,
+        entry-contents a (contents c store (registerAt a)) v,
       )
       (store-back c store b (registerAt a))

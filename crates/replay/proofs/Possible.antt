@@ -8,7 +8,7 @@ use Rattle.runs.specs.Call.{Call}
 use Rattle.runs.specs.World.{World}
 use Rattle.runs.specs.Run.{madeOver, worldOver}
 use Rattle.runs.proofs.Calls.{AllPlaces}
-use Rattle.runs.proofs.Runs.{AllWhole, run-possible, calls-over}
+use Rattle.runs.proofs.Runs.{every-joined, Whole, AllWhole, run-possible, calls-over}
 use Rattle.take.specs.declared.Record.{Record}
 use Rattle.replay.specs.Replay.{callBy, linesThen, later, callsFrom}
 use Rattle.replay.specs.ByHand.{ByHand}
@@ -17,10 +17,6 @@ use Rattle.replay.proofs.Asks.{Few, none, one, few}
 few-whole : {cs : List Call} → Few cs → AllWhole cs
 few-whole none = tt
 few-whole (one l h) = (h, tt)
-
-both-whole : (cs ds : List Call) → AllWhole cs → AllWhole ds → AllWhole (cs ++ ds)
-both-whole [] ds h i = i
-both-whole (c ∷ cs) ds h i = (h .0, both-whole cs ds (h .1) i)
 
 lines-whole : (n : ℕ) (cs : List Call) → AllWhole cs → AllWhole (linesThen n cs)
 unfolding linesThen
@@ -33,7 +29,7 @@ all-whole o at [] = tt
 all-whole o at (r ∷ rs) =
     let more = callsFrom o (later at (r .line)) rs in
     lines-whole (r .line - at) (callBy o r ++ more)
-    (both-whole (callBy o r) more (few-whole (few o r)) (all-whole o (later at (r .line)) rs))
+    (every-joined Whole (callBy o r) more (few-whole (few o r)) (all-whole o (later at (r .line)) rs))
 
 pub hand-possible :
     (w : World) (o : Owners) (rs : List Record) → reset.Learnt tt tt (w .chip) tt → AllPlaces w →

@@ -12,23 +12,18 @@ use Rattle.contents.specs.Widths.{Bytes}
 use Rattle.runs.specs.World.{World, edited}
 use Rattle.runs.specs.Call.{Call, Typed, worldAfter}
 use Rattle.runs.specs.Sort.{sortOf, found, editorIn, onEdit, onLend}
-use Rattle.runs.specs.Run.{Each, madeOver, worldOver}
+use Rattle.runs.specs.Run.{madeOver, worldOver}
 use Rattle.runs.specs.Trace.{lentOn, handedTo, LentTo, handedOver, HandsOn, snapshotsOver, Trace}
 use Rattle.runs.proofs.Calls.{by-answer, other-places, AllPlaces}
 use Rattle.runs.proofs.Views.{View, feeds, writes, undoes, steps, starts, lends, plain, view}
-use Rattle.runs.proofs.Runs.{Whole, AllWhole, run-possible}
+use Rattle.runs.proofs.Runs.{Every, every, each-made, Whole, lends-whole, run-possible}
 
 -- nothing else is lent on the way
 abbrev pub Kept : Call → Type 0
 Kept c = onLend (λ l. ⊥) (Unit {0}) c
 
 abbrev pub AllKept : List Call → Type 0
-AllKept [] = Unit {0}
-AllKept (c ∷ cs) = Kept c × AllKept cs
-
-abbrev pub AllTyped : List Call → Type 0
-AllTyped [] = Unit {0}
-AllTyped (c ∷ cs) = Typed c × AllTyped cs
+AllKept cs = Every Kept cs
 
 -- what an edit hands on is what is lent after it
 edit-hands :
@@ -80,31 +75,17 @@ all-hands ed (c ∷ cs) w k =
       last = rest .last ∙ ap (handedOver ed (madeOver (worldAfter w c) cs)) (sym e);
     }
 
-one-whole : {w : World} {c : Call} → View w c → Kept c → Whole c
-one-whole (feeds b l) k = tt
-one-whole (writes f a b e) k = tt
-one-whole (undoes f e) k = tt
-one-whole (steps a) k = tt
-one-whole (starts o) k = tt
-one-whole (lends l) k = absurd k
-one-whole {c = c} (plain s q l) k = let h : Whole c = rw s tt in h
-
-whole : (cs : List Call) (w : World) → AllKept cs → AllWhole cs
-whole [] w k = tt
-whole (c ∷ cs) w k = (one-whole (view w c) (k .0), whole cs w (k .1))
-
-pub typed : (cs : List Call) (w : World) → AllTyped cs → Each (λ e. Typed (e .asks)) (madeOver w cs)
-typed [] w t = tt
-typed (c ∷ cs) w t = (t .0, typed cs (worldAfter w c) (t .1))
+none-lent : (w : World) (c : Call) → Kept c → Whole c
+none-lent w c k = lends-whole w c (λ l q. let lent : ⊥ = rw q at k in absurd lent)
 
 pub traces-exist :
     (ed : Editor) (cs : List Call) (start : World) → reset.Learnt tt tt (start .chip) tt → Bytes (start .lent .store) →
-    AllPlaces start → AllTyped cs → AllKept cs →
+    AllPlaces start → Every Typed cs → AllKept cs →
     Trace ed start (madeOver start cs) (worldOver start cs) (snapshotsOver ed (madeOver start cs) [])
 traces-exist ed cs start fresh bytes full t k =
     let h = all-hands ed cs start k in
     record {
-      reached = record { fresh = fresh; run = run-possible cs start full (whole cs start k); typed = typed cs start t };
+      reached = record { fresh = fresh; run = run-possible cs start full (every Kept Whole (none-lent start) cs k); typed = each-made Typed cs start t };
       bytes = bytes;
       hands = h .hands;
       lent-last = h .last;

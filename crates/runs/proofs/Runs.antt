@@ -1,6 +1,6 @@
 -- What holds of every call holds of every run.
 use mathlib.Core.Path.{_≡_, refl, ap, _∙_}
-use mathlib.Core.List.{List, [], _∷_}
+use mathlib.Core.List.{List, [], _∷_, _++_}
 use mathlib.Core.Bool.{Bool, true, false}
 use Prim.Native.Nat.{ℕ, _%_}
 use lib.ListN.{length, set, length-set}
@@ -13,7 +13,7 @@ use Rattle.registers.specs.Address.{registerAt}
 use Rattle.page.specs.UndoRecord.{isKept, entryAt}
 use Rattle.page.specs.Page.{placesAfter}
 use Rattle.runs.specs.World.{World, placesOf, edited, Loan, lentRam, lentStore, lentPlaces, lentBy}
-use Rattle.runs.specs.Call.{Call, servedWorld, replyTo, worldAfter}
+use Rattle.runs.specs.Call.{Call, lend, servedWorld, replyTo, worldAfter}
 use Rattle.runs.specs.Sort.{onLend}
 use Rattle.runs.specs.Run.{Made, Run, ended, on, callsOf, Each, madeOver, worldOver}
 use Rattle.runs.proofs.Calls.{by-answer, fixed, AllPlaces, possible}
@@ -48,7 +48,25 @@ pub calls-over : (cs : List Call) (w : World) → callsOf (madeOver w cs) ≡ cs
 calls-over [] w = refl
 calls-over (c ∷ cs) w = ap (λ (x : List Call). c ∷ x) (calls-over cs (worldAfter w c))
 
--- places that are lent on the way are 256
+-- ---- what holds of each call of a list
+abbrev pub Every : (Call → Type 0) → List Call → Type 0
+Every P [] = Unit {0}
+Every P (c ∷ cs) = P c × Every P cs
+
+pub every : (P Q : Call → Type 0) → ((c : Call) → P c → Q c) → (cs : List Call) → Every P cs → Every Q cs
+every P Q f [] h = tt
+every P Q f (c ∷ cs) h = (f c (h .0), every P Q f cs (h .1))
+
+pub every-joined : (P : Call → Type 0) (cs ds : List Call) → Every P cs → Every P ds → Every P (cs ++ ds)
+every-joined P [] ds h i = i
+every-joined P (c ∷ cs) ds h i = (h .0, every-joined P cs ds (h .1) i)
+
+-- holds of each call of the run that they make
+pub each-made : (P : Call → Type 0) (cs : List Call) (w : World) → Every P cs → Each (λ m. P (m .asks)) (madeOver w cs)
+each-made P [] w h = tt
+each-made P (c ∷ cs) w h = (h .0, each-made P cs (worldAfter w c) (h .1))
+
+-- ---- places that are lent on the way are 256
 abbrev pub WholeLoan : Loan → Type 0
 WholeLoan (lentRam l) = Unit {0}
 WholeLoan (lentStore l) = Unit {0}
@@ -58,8 +76,20 @@ abbrev pub Whole : Call → Type 0
 Whole c = onLend WholeLoan (Unit {0}) c
 
 abbrev pub AllWhole : List Call → Type 0
-AllWhole [] = Unit {0}
-AllWhole (c ∷ cs) = Whole c × AllWhole cs
+AllWhole cs = Every Whole cs
+
+-- so they are where a call lends none, or whole ones
+whole-by : (w : World) (c : Call) → View w c → ((l : Loan) → c ≡ lend l → WholeLoan l) → Whole c
+whole-by w c (feeds b l) h = tt
+whole-by w c (writes ed a b e) h = tt
+whole-by w c (undoes ed e) h = tt
+whole-by w c (steps a) h = tt
+whole-by w c (starts o) h = tt
+whole-by w c (lends l) h = h l refl
+whole-by w c (plain s q l) h = rw s tt
+
+pub lends-whole : (w : World) (c : Call) → ((l : Loan) → c ≡ lend l → WholeLoan l) → Whole c
+lends-whole w c h = whole-by w c (view w c) h
 
 -- one editor's places replaced
 edit-whole : (w : World) (ed : Editor) (c : Chip) (store places : List ℕ) → length places ≡ 256 → AllPlaces w → AllPlaces (edited w ed c store places)

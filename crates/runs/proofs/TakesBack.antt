@@ -4,11 +4,9 @@ use mathlib.Core.Bool.{Bool, true, false}
 use mathlib.Core.List.{List, [], _∷_}
 use Prim.Native.Nat.{ℕ, zero, suc, _<_}
 use native.Mathlib.Omega.{arith}
-use borrow.Author.Tests.{eqb-true, eqb-false, eq-eqb}
-use lib.Dec.{eqb}
+use borrow.Author.Tests.{eq-eqb}
 use lib.ListN.{length, take}
 use Rattle.common.specs.Answers.{done}
-use Rattle.common.specs.Choice.{if}
 use Rattle.common.proofs.Lists.{after-set}
 use Rattle.editors.specs.declared.Editor.{Editor}
 use Rattle.ring.specs.declared.Undo.{Undo}
@@ -32,8 +30,8 @@ use Rattle.contents.proofs.ContentsLaws.{other-stays, put-contents}
 use Rattle.contents.proofs.Shows.{same-own, same-dcsr}
 use Rattle.page.specs.UndoRecord.{isKept, entryAt, recordIn}
 use Rattle.page.specs.Page.{recordAfter}
-use Rattle.page.specs.Undo.{undoAnswer, newest, undone}
-use Rattle.page.proofs.UndoLaws.{unrecorded, entry-register, entry-contents, served-register, chip-again, store-again}
+use Rattle.page.specs.Undo.{newest, undone}
+use Rattle.page.proofs.UndoLaws.{unrecorded, entry-register, entry-contents, undo-served, served-register, chip-again, store-again}
 use Rattle.runs.specs.World.{World, placesOf, edited}
 use Rattle.runs.specs.Call.{write, undo, Reply}
 use Rattle.runs.specs.Run.{Made, Makes}
@@ -116,18 +114,6 @@ write-stays c ed Empty b k = quiet c c refl refl refl refl refl refl refl
 
 -- ---- an undo
 
--- served, it had a store of the right length, and something to take back
-undo-served : (c : Chip) (ed : Editor) (size : ℕ) → undoAnswer c ed size ≡ done → (size ≡ 4096) × (undoOf (c .editing) ed .count ≡ 0 → ⊥)
-unfolding undoAnswer
-undo-served c ed size h = go (eqb size 4096) refl (eqb (undoOf (c .editing) ed .count) 0) refl h
-  where
-    go :
-        (s : Bool) → eqb size 4096 ≡ s → (t : Bool) → eqb (undoOf (c .editing) ed .count) 0 ≡ t → _≡_ {A = ℕ} (if s (if t 10 0) 1) 0 →
-        (size ≡ 4096) × (undoOf (c .editing) ed .count ≡ 0 → ⊥)
-    go true e true f k = absurd (omega arith)
-    go true e false f k = (eqb-true _ _ e, eqb-false _ _ f)
-    go false e t f k = absurd (omega arith)
-
 -- DCSR reads as it did, to either editor
 dcsr-stays : (c d : Chip) (reader : Editor) → Stays c d → dcsr d reader ≡ dcsr c reader
 unfolding dcsr
@@ -169,8 +155,8 @@ module _ {ed : Editor} {w v : World} {r : Reply} {m : Snapshot} {ms : List Snaps
       served-is k z
       ∙ rw (
         s .tells,
-        entry-register (m .address) value (known .small) byte,
-        entry-contents (m .address) value (known .small) byte,
+        entry-register (m .address) value (known .small),
+        entry-contents (m .address) value byte,
       )
 
   restored : Restored m w (v .chip) (v .lent .store)

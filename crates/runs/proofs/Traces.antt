@@ -12,17 +12,15 @@ use Rattle.common.specs.Answers.{done, served}
 use Rattle.common.specs.Choice.{if}
 use Rattle.common.proofs.Lists.{after-set, map-take}
 use Rattle.editors.specs.declared.Editor.{Editor}
-use Rattle.editors.specs.declared.Editor.the-variants.{Song, Picture}
 use Rattle.editors.specs.declared.Owners.{Owners}
 use Rattle.editors.specs.Table.{other, same}
 use Rattle.editors.proofs.Which.{Which, own, another, which, same-self, same-other}
-use Rattle.ring.specs.Ring.{entries, recordOf, tail}
+use Rattle.ring.specs.Ring.{recordOf, tail}
 use Rattle.chip.specs.declared.Chip.{Chip}
-use Rattle.chip.specs.declared.Editing.{Editing}
-use Rattle.chip.specs.Editors.{undoOf, noEntries, started as startedChip}
+use Rattle.chip.specs.Editors.{undoOf, started as startedChip}
 use Rattle.chip.specs.Reset.{resetChip}
 use Rattle.chip.specs.Step.{stepped as steppedChip, countersStepped}
-use Rattle.chip.proofs.EditingLaws.{other-record}
+use Rattle.chip.proofs.EditingLaws.{other-record, started-none, reset-none, none-kept}
 use Rattle.registers.specs.declared.address.Register.{Register}
 use Rattle.registers.specs.declared.address.Register.the-variants.{Pixel, Sprite, Palette, Video, Ivr, Converter, Channel as ChannelAt, Dcsr, Status, Empty}
 use Rattle.registers.specs.Address.{registerAt}
@@ -251,20 +249,6 @@ module _ {ed : Editor} {w v : World} {c : Call} {r : Reply} {h : Handed} (ss : L
       }
 
 -- ---- a start leaves nothing to undo
-none-tells : (ed : Editor) (x : Editing) (places : List ℕ) → undoOf x ed ≡ noEntries → recordOf (undoOf x ed) places ≡ []
-unfolding recordOf entries
-none-tells ed x places e = rw e
-
-started-none : (ed : Editor) (c : Chip) (o : Owners) → undoOf (startedChip c o .editing) ed ≡ noEntries
-unfolding startedChip
-started-none Song c o = refl
-started-none Picture c o = refl
-
-reset-none : (ed : Editor) → undoOf (resetChip .editing) ed ≡ noEntries
-unfolding resetChip
-reset-none Song = refl
-reset-none Picture = refl
-
 start-knows :
     {ed : Editor} {w v : World} {o : Owners} {r : Reply} {h : Handed} {ss : List Snapshot} → Makes w (start o) r v →
     Knows ed (w .chip) h ss → Knows ed (v .chip) h []
@@ -272,7 +256,7 @@ start-knows {ed} {w} {o = o} {h = h} k s =
     record {
       widths = rw (fixed k .world-is) (call-widths w (start o) tt (s .widths));
       bytes = s .bytes;
-      tells = rw (fixed k .world-is) (none-tells ed (startedChip (w .chip) o .editing) (h .places) (started-none ed (w .chip) o));
+      tells = rw (fixed k .world-is) (none-kept ed (startedChip (w .chip) o .editing) (h .places) (started-none ed (w .chip) o));
       each = tt;
     }
 
@@ -334,6 +318,6 @@ knows {ed} {start} t =
     (record {
       widths = rw (fresh .chip) reset-widths;
       bytes = t .bytes;
-      tells = rw (fresh .chip) (none-tells ed (resetChip .editing) (placesOf (start .lent) ed) (reset-none ed));
+      tells = rw (fresh .chip) (none-kept ed (resetChip .editing) (placesOf (start .lent) ed) (reset-none ed));
       each = tt;
     }))
