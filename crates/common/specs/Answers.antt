@@ -67,6 +67,14 @@ noRoom = 14
 abbrev pub notYours : ℕ
 notYours = 15
 
+-- a list has no STOP, and the buffer no room for one
+abbrev pub noRoomForStop : ℕ
+noRoomForStop = 16
+
+-- the report is too small for the changes
+abbrev pub reportTooSmall : ℕ
+reportTooSmall = 17
+
 -- what a served call gives, or what stands in its place where the number is a refusal
 abbrev pub served : {A : Type 0} → ℕ → A → A → A
 served number x other = if (eqb number done) x other

@@ -43,5 +43,11 @@ pub const BAD_RECORD: u8 = 13;
 // the output is too small for a take, or its count or offset too large;
 pub const NO_ROOM: u8 = 14;
 
-// a register that is not this editor's.
+// a register that is not this editor's;
 pub const NOT_YOURS: u8 = 15;
+
+// a list has no STOP, and the buffer no room for one;
+pub const NO_ROOM_FOR_STOP: u8 = 16;
+
+// the report is too small for the changes.
+pub const REPORT_TOO_SMALL: u8 = 17;

@@ -8,7 +8,8 @@ use lib.Dec.{eqb·suc-zero}
 use lib.ListN.{length}
 use borrow.Author.Tests.{eq-eqb, ne-eqb}
 use Rattle.forecast.specs.declared.Length.{Length}
-use Rattle.forecast.specs.Rule.{wordsOf, hasStop, even, linesForecast, cyclesForecast, mostForecast, answerOf}
+use Rattle.words.specs.Words.{hasStop}
+use Rattle.forecast.specs.Rule.{wordsOf, even, linesForecast, cyclesForecast, mostForecast, answerOf}
 use Rattle.forecast.specs.Contract.{Forecasts}
 use Rattle.forecast.proofs.Demands.{demanded}
 

@@ -3,7 +3,8 @@ use mathlib.Core.Path.{_≡_}
 use mathlib.Core.Bool.{true}
 use mathlib.Core.List.{List}
 use Prim.Native.Nat.{ℕ}
-use Rattle.forecast.specs.Rule.{even, wordsOf, hasStop, linesForecast, cyclesMeeting, cyclesForecast, mostForecast}
+use Rattle.words.specs.Words.{hasStop}
+use Rattle.forecast.specs.Rule.{even, wordsOf, linesForecast, cyclesMeeting, cyclesForecast, mostForecast}
 use Rattle.forecast.specs.Demand.{channel, stepsOf, didOver, Demand}
 use Rattle.forecast.proofs.Runs.{seen, bounded}
 use Rattle.forecast.proofs.Plays.{plays}

@@ -15,10 +15,10 @@ use Rattle.sound.specs.Channels.{wordAt, pauseCounted, fetched, withPause}
 use Rattle.sound.specs.Line.{channelAfter}
 use Rattle.picture.specs.Pens.{widthOf, pen}
 use Rattle.picture.specs.Screen.{characterAt, byteAddress, rowLine}
-use Rattle.words.specs.Words.{repeats, loops, stops}
-use Rattle.forecast.specs.Rule.{closes, openCount, passes, linesOf, cyclesOf, wordsOf, hasStop, total, even, linesForecast, cyclesMeeting}
+use Rattle.words.specs.Words.{repeats, loops, stops, hasStop}
+use Rattle.forecast.specs.Rule.{Has, closes, openCount, passes, linesOf, cyclesOf, wordsOf, total, even, linesForecast, cyclesMeeting}
 use Rattle.forecast.specs.Demand.{Ready}
-use Rattle.forecast.specs.Examples.{Case, forecasts, ends, shows, pens, cases, Has, Claim, All}
+use Rattle.forecast.specs.Examples.{Case, forecasts, ends, shows, pens, cases, Claim, All}
 use Rattle.forecast.proofs.Words.{words-stop, words-more}
 use Rattle.forecast.proofs.Waits.{turn-acts}
 use Rattle.forecast.proofs.Moves.{moves}

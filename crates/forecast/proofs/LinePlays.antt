@@ -16,8 +16,8 @@ use Rattle.sound.specs.declared.Did.the-variants.{SatOut, Executed}
 use Rattle.sound.specs.declared.Turn.{Turn}
 use Rattle.sound.specs.Channels.{wordAt, withPause, fetched, wordPlayed, turnOf}
 use Rattle.sound.specs.Line.{disturbance, ownCycles, channelAfter, didOn}
-use Rattle.words.specs.Words.{isPause, isControl, stops}
-use Rattle.forecast.specs.Rule.{linesOf, cyclesOf, wordsOf, hasStop}
+use Rattle.words.specs.Words.{isPause, isControl, stops, hasStop}
+use Rattle.forecast.specs.Rule.{linesOf, cyclesOf, wordsOf}
 use Rattle.forecast.specs.Left.{waits, left, linesLeft, cyclesLeft}
 use Rattle.forecast.proofs.Playing.{Playing}
 use Rattle.forecast.specs.Demand.{didStop, Lent}

@@ -12,7 +12,8 @@ use Rattle.sound.specs.declared.Did.the-variants.{SatOut}
 use Rattle.sound.specs.declared.Turn.{Turn}
 use Rattle.sound.specs.Line.{channelAfter, didOn}
 use Rattle.chip.specs.Channels.{Aside}
-use Rattle.forecast.specs.Rule.{cyclesOf, wordsOf, total, hasStop, even, linesForecast, cyclesMeeting}
+use Rattle.words.specs.Words.{hasStop}
+use Rattle.forecast.specs.Rule.{cyclesOf, wordsOf, total, even, linesForecast, cyclesMeeting}
 use Rattle.forecast.specs.Left.{waits, left, linesLeft, cyclesLeft}
 use Rattle.forecast.proofs.Playing.{Playing}
 use Rattle.forecast.specs.Demand.{didSit, Ready}

@@ -6,8 +6,8 @@ use Prim.Native.Nat.{ℕ, zero, suc, _+_, _-_, _*_, _/_, _≤_}
 use native.Mathlib.Omega.{arith}
 use lib.ListN.{length}
 use Rattle.sound.specs.Channels.{wordAt}
-use Rattle.words.specs.Words.{stops}
-use Rattle.forecast.specs.Rule.{wordsFrom, wordsOf, hasStop}
+use Rattle.words.specs.Words.{stops, hasStop}
+use Rattle.forecast.specs.Rule.{wordsFrom, wordsOf}
 use Rattle.forecast.specs.Pass.{bytesFrom}
 use Rattle.forecast.proofs.Words.{some-word, words-end, words-stop, words-more}
 

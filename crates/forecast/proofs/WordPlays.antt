@@ -12,8 +12,8 @@ use Rattle.words.specs.declared.WordKind.{WordKind}
 use Rattle.words.specs.declared.WordKind.the-variants.{Load, Pause, Repeat, Control, Nothing}
 use Rattle.sound.specs.declared.Channel.{Channel}
 use Rattle.sound.specs.Channels.{wordAt, fetched, wordPlayed}
-use Rattle.words.specs.Words.{isRepeat, isControl, stops, loops, repeats}
-use Rattle.forecast.specs.Rule.{wordsOf, hasStop}
+use Rattle.words.specs.Words.{isRepeat, isControl, stops, loops, repeats, hasStop}
+use Rattle.forecast.specs.Rule.{wordsOf}
 use Rattle.forecast.specs.Left.{costBetween, ahead, left}
 use Rattle.forecast.proofs.Playing.{Plain, Since, Playing}
 use Rattle.forecast.proofs.Ahead.{ahead-stop, ahead-plain, ahead-repeat, ahead-loop, ahead-total}

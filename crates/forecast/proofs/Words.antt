@@ -6,8 +6,8 @@ use Prim.Native.Nat.{ℕ, zero, suc, _+_, _-_, _*_, _/_, _<_, _≤_}
 use native.Mathlib.Omega.{arith}
 use lib.ListN.{length}
 use Rattle.sound.specs.Channels.{wordAt}
-use Rattle.words.specs.Words.{stops}
-use Rattle.forecast.specs.Rule.{wordsFrom, wordsOf, hasStop}
+use Rattle.words.specs.Words.{stops, hasStop}
+use Rattle.forecast.specs.Rule.{wordsFrom, wordsOf}
 
 -- where a STOP stands there is a word
 pub some-word : (ws : List ℕ) → hasStop ws ≡ true → 0 < length ws

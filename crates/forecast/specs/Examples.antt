@@ -10,7 +10,7 @@ use Rattle.sound.specs.Channels.{wordAt}
 use Rattle.sound.specs.Line.{channelAfter}
 use Rattle.picture.specs.Pens.{widthOf, pen}
 use Rattle.picture.specs.Screen.{characterAt, byteAddress, rowLine}
-use Rattle.forecast.specs.Rule.{answerOf, linesForecast, cyclesForecast}
+use Rattle.forecast.specs.Rule.{Has, answerOf, linesForecast, cyclesForecast}
 use Rattle.forecast.specs.Demand.{Ready}
 
 -- `forecasts`: words, prescale, lines, cycles. `ends`: a word at an address, its lines, and the channel's address then. `shows`: a
@@ -39,11 +39,6 @@ cases =
     pens 0 0x20 (4 ∷ 0 ∷ []) ∷
     pens 0 0x02 (8 ∷ 0 ∷ []) ∷
     []
-
--- RAM has these words from an address on
-abbrev pub Has : List ℕ → ℕ → List ℕ → Type 0
-Has ram a [] = Unit {0}
-Has ram a (w ∷ ws) = (wordAt ram a ≡ w) × Has ram (a + 2) ws
 
 -- a forecast row: for every RAM of 65,536 bytes that has these words at an even start, the forecast is served with these numbers
 pub record Forecast (ws : List ℕ) (prescale lines cycles : ℕ) (ram : List ℕ) (start : ℕ) : Type 0 where

@@ -7,8 +7,8 @@ use Rattle.common.specs.Choice.{if}
 use Rattle.sound.specs.declared.Access.the-variants.{Off, PsgWrite}
 use Rattle.forecast.specs.declared.Scan.{Scan}
 use Rattle.forecast.specs.declared.Sums.{Sums}
-use Rattle.words.specs.Words.{repeats, loops, stops}
-use Rattle.forecast.specs.Rule.{linesOf, cyclesOf, wordsOf, hasStop, openCount}
+use Rattle.words.specs.Words.{repeats, loops, stops, hasStop}
+use Rattle.forecast.specs.Rule.{linesOf, cyclesOf, wordsOf, openCount}
 
 -- the sums with one more word of this cost, where the open count is k
 unfoldable pub added : ℕ → ℕ → ℕ → Sums → Sums

@@ -1,13 +1,14 @@
 -- 01, "Sound": the forecast, over the words of a list and how many times each passes.
+use mathlib.Core.Path.{_≡_}
 use mathlib.Core.Bool.{Bool, true, false}
 use mathlib.Core.List.{List, [], _∷_}
 use Prim.Native.Nat.{ℕ, zero, suc, _+_, _-_, _*_, _/_}
 use lib.Dec.{eqb, ltb}
 use lib.ListN.{length, take, drop}
-use Rattle.common.specs.Choice.{if, both, either}
+use Rattle.common.specs.Choice.{if, both}
 use Rattle.common.specs.Answers.{done, wrongLength, noStop}
 use Rattle.common.specs.Sizes.{ramBytes}
-use Rattle.words.specs.Words.{kindOf, isLoad, isPause, low12, repeats, loops, stops}
+use Rattle.words.specs.Words.{kindOf, isLoad, isPause, low12, repeats, loops, stops, hasStop}
 use Rattle.sound.specs.declared.Access.{Access}
 use Rattle.sound.specs.declared.Access.the-variants.{Off, PsgWrite}
 use Rattle.sound.specs.Channels.{wordAt}
@@ -21,6 +22,11 @@ linesOf prescale w = if (both (isPause (kindOf w)) (ltb 0 (low12 w))) (low12 w *
 unfoldable pub cyclesOf : Access → ℕ → ℕ
 cyclesOf a w = if (isLoad (kindOf w)) (9 + disturbance a) 2
 
+-- RAM has these words from an address on
+abbrev pub Has : List ℕ → ℕ → List ℕ → Type 0
+Has ram a [] = Unit {0}
+Has ram a (w ∷ ws) = (wordAt ram a ≡ w) × Has ram (a + 2) ws
+
 -- at most so many words from an address on, through the first STOP
 unfoldable pub wordsFrom : List ℕ → ℕ → ℕ → List ℕ
 wordsFrom ram zero a = []
@@ -29,11 +35,6 @@ wordsFrom ram (suc n) a = wordAt ram a ∷ elim (stops (wordAt ram a)) [ true �
 -- the words from an address to FFFEh, through the first STOP
 unfoldable pub wordsOf : List ℕ → ℕ → List ℕ
 wordsOf ram a = wordsFrom ram ((ramBytes - a) / 2) a
-
--- a STOP stands among the words
-unfoldable pub hasStop : List ℕ → Bool
-hasStop [] = false
-hasStop (w ∷ ws) = either (stops w) (hasStop ws)
 
 -- a LOOP comes next, before any REPEAT, and neither in the STOP's own word nor beyond it
 unfoldable pub closes : List ℕ → Bool

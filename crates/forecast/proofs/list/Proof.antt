@@ -8,7 +8,8 @@ use native.Mathlib.Omega.{arith}
 use denote.Ref.{now}
 use lib.ListN.{length}
 use borrow.Author.Needs.{needs}
-use Rattle.forecast.specs.Rule.{wordsOf, hasStop, even, listOf}
+use Rattle.words.specs.Words.{hasStop}
+use Rattle.forecast.specs.Rule.{wordsOf, even, listOf}
 use Rattle.forecast.specs.Pass.{bytesFrom}
 use Rattle.forecast.proofs.Walk.{words-inside, bytes-none, bytes-some}
 use Rattle.forecast.proofs.Answer.{answer-length, answer-none, answer-served}
