@@ -1,15 +1,15 @@
 /* The Plus chip core, for x86-64 Linux. Link libplus.a, which `rt staticlib plus` builds, or what `plus install` puts down.
  *
  * The chip's state goes in by value and comes back in the answer; the library keeps nothing between calls. Every call but
- * plus_built, plus_reset, plus_grey, plus_take_pack and plus_take_unpack, which can't be refused, has an answer
+ * plus_built, plus_reset, plus_grey, plus_change, plus_take_pack and plus_take_unpack, which can't be refused, has an answer
  * number; plus_answer_text says in words what it means. With a refusal, that is any other than 0, the state and the buffers are as
  * they were and every other number in the answer is 0, but for the number of a bad line or of a bad record; plus_replay, which is
  * given no state, hands back the one after reset then. Any contents of the structs are served, but a bool must be 0 or 1. A host
  * that could be linked with another library than its header's asks plus_fits first.
  *
  * A buffer is a pointer, never NULL, and its length: PLUS_RAM bytes for RAM, PLUS_STORE for the sprite pixel store, PLUS_LINE for
- * a drawn line, PLUS_EXPORT for an export. A text and a take have any number of bytes, and the length of sound words and of
- * records is counted in these. The buffers of one call must not overlap.
+ * a drawn line, PLUS_EXPORT for an export. A text and a take have any number of bytes, and the length of sound words, of records
+ * and of a report's numbers is counted in these. The buffers of one call must not overlap.
  *
  * Two editors work on one chip: page read, page write and undo take the number of the one that makes them, PLUS_SONG or
  * PLUS_PICTURE. plus_start gives a table of which of them may write what: bit n of its numbers is palette entry (both bytes),
@@ -51,8 +51,8 @@ extern "C" {
 /* The version of this header: 10000 times the major number, 100 times the minor one, and the patch. Another patch changes nothing
  * that a caller could see; with another minor or major number a struct may have another layout, the state above all. What each
  * version changes for a caller is in CHANGELOG.md. */
-#define PLUS_VERSION 1000
-#define PLUS_VERSION_TEXT "0.10.0"
+#define PLUS_VERSION 1100
+#define PLUS_VERSION_TEXT "0.11.0"
 
 enum { PLUS_RAM = 65536, PLUS_STORE = 4096, PLUS_LINE = 640, PLUS_EXPORT = 477, PLUS_PLACES = 256 };
 
@@ -67,22 +67,24 @@ enum { PLUS_COUNTS = 24 };
 
 /* The numbers a call can answer. The lowest that applies is given. */
 enum {
-    PLUS_DONE = 0,             /* done */
-    PLUS_WRONG_LENGTH = 1,     /* a buffer has another length than its call wants */
-    PLUS_NOT_MAPPED = 2,       /* the page is not mapped, or the address is not in it (4000h to 7FFFh) */
-    PLUS_NOTHING_THERE = 3,    /* no register there that could be written, or no record with that number */
-    PLUS_MODE_THREE = 4,       /* a line in screen mode 3 can't be drawn */
-    PLUS_NO_INTERRUPT = 5,     /* nothing to acknowledge */
-    PLUS_NO_STOP = 6,          /* the list has no STOP up to the end of RAM */
-    PLUS_NOT_LISTING = 7,      /* a line of the text is no word's */
-    PLUS_TOO_SMALL = 8,        /* the buffer has no room for all of the text, or of the words */
-    PLUS_CONVERTER_THERE = 9,  /* an analogue converter (6808h to 680Fh), which can only be read */
-    PLUS_NOTHING_TO_UNDO = 10, /* no page write is left that could be undone */
-    PLUS_NO_TRAILER = 11,      /* the file is shorter than a trailer, or has other letters at its end */
-    PLUS_NOT_MET = 12,         /* the records, by the trailer's offset and count, don't end where the trailer begins */
-    PLUS_BAD_RECORD = 13,      /* a record is bad */
-    PLUS_NO_ROOM = 14,         /* the buffer has no room for the take, or its count or offset has no room in 4 bytes */
-    PLUS_NOT_YOURS = 15        /* the register is not this editor's; no other number applies where this one does */
+    PLUS_DONE = 0,              /* done */
+    PLUS_WRONG_LENGTH = 1,      /* a buffer has another length than its call wants, or fewer words than are in use */
+    PLUS_NOT_MAPPED = 2,        /* the page is not mapped, or the address is not in it (4000h to 7FFFh) */
+    PLUS_NOTHING_THERE = 3,     /* no register there that could be written, or no record with that number */
+    PLUS_MODE_THREE = 4,        /* a line in screen mode 3 can't be drawn */
+    PLUS_NO_INTERRUPT = 5,      /* nothing to acknowledge */
+    PLUS_NO_STOP = 6,           /* the list has no STOP up to the end of RAM */
+    PLUS_NOT_LISTING = 7,       /* a line of the text is no word's */
+    PLUS_TOO_SMALL = 8,         /* the buffer has no room for all of the text, or of the words */
+    PLUS_CONVERTER_THERE = 9,   /* an analogue converter (6808h to 680Fh), which can only be read */
+    PLUS_NOTHING_TO_UNDO = 10,  /* no page write is left that could be undone */
+    PLUS_NO_TRAILER = 11,       /* the file is shorter than a trailer, or has other letters at its end */
+    PLUS_NOT_MET = 12,          /* the records, by the trailer's offset and count, don't end where the trailer begins */
+    PLUS_BAD_RECORD = 13,       /* a record is bad */
+    PLUS_NO_ROOM = 14,          /* the buffer has no room for the take, or its count or offset has no room in 4 bytes */
+    PLUS_NOT_YOURS = 15,        /* the register is not this editor's; no other number applies where this one does */
+    PLUS_NO_ROOM_FOR_STOP = 16, /* no word in use has STOP, and the buffer has no room for one after them */
+    PLUS_REPORT_TOO_SMALL = 17  /* the report has no room for all changes */
 };
 
 /* What a channel did on a line. */
@@ -261,6 +263,19 @@ typedef struct {
     size_t line;  /* with 7 the first bad line, from 1 */
 } PlusReadBack;
 
+typedef struct {
+    uint8_t answer;
+    size_t used;    /* words in use afterwards: one more than before where a STOP was added */
+    size_t changes; /* how many changes the report has */
+} PlusMended;
+
+/* A word that mending has changed, or the STOP that it has added. */
+typedef struct {
+    uint64_t place;    /* where in the buffer, from 0 */
+    uint16_t old_word; /* what stood there before */
+    uint16_t new_word; /* what stands there now */
+} PlusChange;
+
 /* One call of a take. It is bad if its kind is none of the above, if its kind has no address or no value and that is not 0, or if
  * its line number is below that of the record before it. */
 typedef struct {
@@ -366,6 +381,17 @@ PlusPrinted plus_print(const uint16_t *words, size_t words_length, uint8_t *text
  * text has as many words as it has LFs. Answers 0, 7 or 8. */
 PlusReadBack plus_read(const uint8_t *text, size_t text_length, uint16_t *words, size_t words_length);
 
+/* Mends an old list, which is the first `used` words of a buffer and may have none: 1000h and words that do nothing become 4000h,
+ * and a control word keeps LOOP, INT and STOP (bits 0, 4, 5) and no other bit. If none of these words has STOP, 4020h goes after
+ * the last. From a channel with no pause and no loop the list plays as it did, up to its first STOP or its end. Every change is
+ * reported, by rising places, and the added STOP last: in two numbers, the place, and 65,536 times the old word plus the new one,
+ * which plus_change takes apart. A report of 2 * (used + 1) numbers always has the room. Words and numbers beyond stay. Answers 0,
+ * 1, 16 or 17, tested in this order. */
+PlusMended plus_mend(uint16_t *words, size_t words_length, size_t used, uint64_t *report, size_t report_length);
+
+/* The change of a report with a number, from 0; all 0 where a report of this length has no room for so many. No answer number. */
+PlusChange plus_change(const uint64_t *report, size_t report_length, size_t number);
+
 /* A record as one number, in which it is lent to plus_take_write: the number that its PLUS_TAKE_RECORD bytes in a file say. No
  * answer number. */
 uint64_t plus_take_pack(PlusRecord record);
@@ -421,6 +447,8 @@ static inline const char *plus_answer_text(uint8_t number) {
         "a record is bad",
         "there is no room for the take",
         "the register is not this editor's",
+        "the list has no STOP, and there is no room for one",
+        "the report has no room for all changes",
     };
     return number < sizeof texts / sizeof texts[0] ? texts[number] : "a number that this version doesn't answer";
 }

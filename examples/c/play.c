@@ -1,7 +1,8 @@
 /* Sees that the library is its header's, reads a sound list from text and prints it, forecasts it, then plays it on channel 0 up to its
  * STOP and counts the same numbers: the least cycles with the processor off the 8255, the most with PSG register writes on every line.
  * On the way a slider moves the prescale, and the gesture is undone. The calls before the lines are written as a take, which is opened
- * and played again. In the end a picture editor works beside the song editor, under a table that says what is whose. */
+ * and played again. A picture editor works beside the song editor, under a table that says what is whose. In the end an old list is
+ * mended. */
 #include <stdio.h>
 #include <stdlib.h>
 #include <string.h>
@@ -148,6 +149,20 @@ static void put_editors(PlusChip chip) {
     }
 }
 
+/* An old list mended: 3ABCh and 1000h do nothing, 4F81h is a LOOP with stray bits, and no word is a STOP. There is room for one, and for
+ * a change of every word. */
+static void put_mended(void) {
+    uint16_t words[] = {0x3ABC, 0x0738, 0x1000, 0x4F81, 0};
+    uint64_t report[2 * 5];
+    PlusMended mended = plus_mend(words, 5, 4, report, 2 * 5);
+    served("mend", mended.answer);
+    for (size_t i = 0; i < mended.changes; i++) {
+        PlusChange change = plus_change(report, 2 * 5, i);
+        printf("mended: word %llu was %04X and is %04X\n", (unsigned long long)change.place, change.old_word, change.new_word);
+    }
+    printf("mended: %zu words\n", mended.used);
+}
+
 int main(void) {
     fitting();
     put_list(song, 0x8000);
@@ -159,5 +174,6 @@ int main(void) {
     play("played beside PSG writes", ready(), PLUS_PSG_WRITE);
     put_take("a song");
     put_editors(ready());
+    put_mended();
     return 0;
 }

@@ -1,4 +1,4 @@
--- Two tests joined.
+-- Two tests joined, and the two results of one.
 use native.Mathlib.Omega.{arith}
 use mathlib.Core.Path.{_≡_, refl}
 use mathlib.Core.Bool.{Bool, true, false}
@@ -16,3 +16,7 @@ and-true false = refl
 pub and-false : (a : Bool) → both a false ≡ false
 and-false true = refl
 and-false false = refl
+
+-- no test has both results
+pub clash : {b : Bool} → b ≡ true → b ≡ false → ⊥
+clash t f = let z : _≡_ {A = ℕ} 0 1 = cc in omega arith

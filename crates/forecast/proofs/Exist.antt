@@ -37,6 +37,10 @@ all-lines n ram start (a ∷ as') w lent e =
       rw (eq-eqb _ _ z) (ap (λ (x : List Accesses). a ∷ x) (rest .1)),
     )
 
+pub no-lend : (as' : List Accesses) → AllWhole (map line as')
+no-lend [] = tt
+no-lend (a ∷ as') = (tt, no-lend as')
+
 pub runs-exist :
     (n : ℕ) (start : ℕ) (accesses : List Accesses) (w : World) → length (w .lent .ram) ≡ 65536 → AllPlaces w →
     (log : List Made) × Run w log (worldOver w (map line accesses)) × Each (Allowed n (w .lent .ram) start) log
@@ -44,10 +48,6 @@ pub runs-exist :
 runs-exist n start accesses w full whole =
     let all = all-lines n (w .lent .ram) start accesses w refl full in
     (madeOver w (map line accesses), run-possible (map line accesses) w whole (no-lend accesses), all .0, all .1)
-  where
-    no-lend : (as' : List Accesses) → AllWhole (map line as')
-    no-lend [] = tt
-    no-lend (a ∷ as') = (tt, no-lend as')
 
 -- a channel that is ready, and a chip with all three so
 abbrev readyChannel : ℕ → ℕ → Channel

@@ -26,7 +26,7 @@ use Rattle.forecast.proofs.Waits.{Counts, acts, sits, counts, turn-acts
 use Rattle.forecast.proofs.WordPlays.{Passes, word-stops, word-passes}
 
 -- the report of a word says whether it is a STOP, and its cycles
-word-stop : (w : ℕ) → didStop (Executed (kindOf w) (low12 w)) ≡ stops w
+pub word-stop : (w : ℕ) → didStop (Executed (kindOf w) (low12 w)) ≡ stops w
 unfolding stops
 word-stop w = by-kind (kindOf w)
   where

@@ -9,7 +9,7 @@ use Rattle.common.specs.Answers.{done}
 use Rattle.common.specs.Choice.{if}
 use Rattle.sound.specs.declared.Accesses.{Accesses}
 use Rattle.sound.specs.declared.Did.{Did}
-use Rattle.sound.specs.Line.{channelAfter, didOn}
+use Rattle.sound.specs.Line.{channelAfter, didOn, didOf}
 use Rattle.sound.proofs.Laws.{line-channel, line-did}
 use Rattle.chip.specs.Channels.{Keeps, LeftAlone, Aside}
 use Rattle.chip.specs.Step.{stepped, countersStepped, Steps}
@@ -20,7 +20,7 @@ use Rattle.runs.specs.Run as run
 use Rattle.runs.specs.Run.{Made, Makes, Run, ended, on, Each}
 use Rattle.runs.proofs.Calls.{served-is, refused-is}
 use Rattle.runs.proofs.Views.{LineView, step, other, line-view}
-use Rattle.forecast.specs.Demand.{channel, LineStep, reportIn, stepBy, stepsOf, Allowed, didIn, didOver, Bounded}
+use Rattle.forecast.specs.Demand.{channel, LineStep, reportIn, stepBy, stepsOf, Allowed, didOver, Bounded}
 use Rattle.forecast.proofs.Spares.{effect}
 use Rattle.forecast.proofs.ChannelRun.{ChannelRun, ended as no-more, aside as call-passes, line as line-passes}
 
@@ -29,6 +29,15 @@ stepping :
     {w v : World} {a : Accesses} {r : Reply} → Makes w (line a) r v →
     Steps (w .chip) (w .lent .ram) a (record { answer = r .answer; chip = v .chip; report = reportIn (r .told) })
 stepping (run.line κs ram a r s l) = rw (← s) l
+
+-- what channel n does on a served line, and the channel after it
+module _ (n : ℕ) (h : n < 3) {w v : World} {a : Accesses} {r : Reply} (k : Makes w (line a) r v) (z : r .answer ≡ done) where
+  pub step-did : didOf (reportIn (r .told) .entries) n ≡ didOn (w .lent .ram) (channel (w .chip) n)
+  step-did = let l = stepping k in rw (l .report, sym (l .answer) ∙ z) (line-did (w .lent .ram) a (w .chip .sound) n h)
+
+  pub step-moves : channel (v .chip) n ≡ channelAfter (w .lent .ram) (channel (w .chip) n)
+  unfolding stepped countersStepped
+  step-moves = rw (served-is k z) (line-channel (w .lent .ram) (w .chip .sound) n h)
 
 module _ (n : ℕ) (h : n < 3) {ram : List ℕ} {start : ℕ} where
   -- a call that is no line step
@@ -48,22 +57,15 @@ module _ (n : ℕ) (h : n < 3) {ram : List ℕ} {start : ℕ} where
       Allowed n ram start (record { before = w; asks = line a; reply = r; after = v }) →
       ChannelRun ram start (channel (v .chip) n) (didOver n ss) →
       ChannelRun ram start (channel (w .chip) n) (didOver n (stepBy (record { before = w; asks = line a; reply = r; after = v }) ss))
-  unfolding stepped countersStepped
   line-seen {w} {v} {a} {r} ss k ok rest = go (eqb (r .answer) done) refl
     where
       s : LineStep
       s = record { accesses = a; report = reportIn (r .told) }
 
-      did : r .answer ≡ done → didIn n s ≡ didOn (w .lent .ram) (channel (w .chip) n)
-      did z = let l = stepping k in rw (l .report, sym (l .answer) ∙ z) (line-did (w .lent .ram) a (w .chip .sound) n h)
-
-      moved : r .answer ≡ done → channel (v .chip) n ≡ channelAfter (w .lent .ram) (channel (w .chip) n)
-      moved z = rw (served-is k z) (line-channel (w .lent .ram) (w .chip .sound) n h)
-
       go : (t : Bool) → eqb (r .answer) done ≡ t → ChannelRun ram start (channel (w .chip) n) (didOver n (if t (s ∷ ss) ss))
       go true t =
           let z = eqb-true _ _ t in
-          line-passes (w .lent .ram) (ok z) (moved z) (did z) rest
+          line-passes (w .lent .ram) (ok z) (step-moves n h k z) (step-did n h k z) rest
       go false t = rw (← (refused-is k (eqb-false _ _ t))) rest
 
   -- any call

@@ -28,7 +28,7 @@ module _ (ram : List ℕ) (start : ℕ) where
     pub falls : (cost : ℕ → ℕ) → left cost ram c ≡ cost w + left cost ram d
 
 -- a LOOP is no REPEAT
-loop-only : (w : ℕ) → loops w ≡ true → repeats w ≡ false
+pub loop-only : (w : ℕ) → loops w ≡ true → repeats w ≡ false
 unfolding loops repeats
 loop-only w l = by-kind (kindOf w) l
   where

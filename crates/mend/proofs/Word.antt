@@ -6,7 +6,7 @@ use native.Mathlib.Omega.{arith}
 use lib.Dec.{eqb}
 use borrow.Author.Tests.{eqb-true, eqb-false}
 use Rattle.common.specs.Choice.{if, both, ofBool}
-use Rattle.words.specs.Words.{kindOf, low12, loopBit, intBit, stopBit, isControl, stops}
+use Rattle.words.specs.Words.{kindOf, low12, loopBit, intBit, stopBit, isRepeat, isControl, repeats, loops, stops}
 use Rattle.words.specs.declared.WordKind.{WordKind}
 use Rattle.words.specs.declared.WordKind.the-variants.{Load, Pause, Repeat, Control, Nothing}
 use Rattle.mend.specs.Rule.{control, nop, mendedAs, mended}
@@ -98,6 +98,16 @@ module _ (w : ℕ) where
   mended-stops =
       mended-same (λ k n. both (isControl k) (stopBit n)) refl refl
       (control-stop (loopBit (low12 w)) (intBit (low12 w)) (stopBit (low12 w)))
+
+  pub mended-loops : loops (mended w) ≡ loops w
+  unfolding loops
+  mended-loops =
+      mended-same (λ k n. both (isControl k) (loopBit n)) refl refl
+      (control-loop (loopBit (low12 w)) (intBit (low12 w)) (stopBit (low12 w)))
+
+  pub mended-repeats : repeats (mended w) ≡ repeats w
+  unfolding repeats
+  mended-repeats = mended-same (λ k n. isRepeat k) refl refl refl
 
 -- mending again
 pub control-mended : (l i s : Bool) → mended (control l i s) ≡ control l i s

@@ -6,6 +6,8 @@ use common::answer::DONE;
 use editors::Owners;
 use listing::Printed;
 use listing::ReadBack;
+use mend::Change;
+use mend::Mended;
 use page::ByteRead;
 use replay::Replayed;
 use sound::Accesses;
@@ -27,6 +29,7 @@ ghost use Rattle.page.specs.Page.{Reads, Writes};
 ghost use Rattle.export.specs.Export.{Exports};
 ghost use Rattle.draw.specs.Drawing.{Draws};
 ghost use Rattle.listing.specs.Contract.{PrintsWords, ReadsText};
+ghost use Rattle.mend.specs.Rule.{changeAt};
 ghost use Rattle.take.specs.Record.{packed, unpacked};
 ghost use Rattle.take.specs.Open.{Opening, ReadsRecord};
 ghost use Rattle.take.specs.Contract.{WritesTake};
@@ -35,6 +38,7 @@ ghost use Rattle.plus.specs.Report.{accessesBy, kindNumber, lowOf, kinds
 ghost use Rattle.plus.specs.Promises.{StepReported, LengthTold};
 ghost use Rattle.plus.specs.Undo.{UndoTold};
 ghost use Rattle.plus.specs.Start.{StartTold};
+ghost use Rattle.plus.specs.Mend.{MendTold};
 ghost use Rattle.plus.specs.Built.{Built};
 
 // A line step's answer, without enums: of each channel the number of what it did, and the low 12 bits of its word.
@@ -71,7 +75,7 @@ pub extern "C" fn plus_built() -> PlusBuilt
     ensures { λ r. ⌜ Built r ⌝ }
 {
     PlusBuilt {
-        version: 1000,
+        version: 1100,
         state: 256,
     }
 }
@@ -315,6 +319,22 @@ pub extern "C" fn plus_read(text: &[u8], words: &mut [u16]) -> ReadBack
     ensures { λ r. ⌜ ReadsText (now (text .entry)) (now (words .entry)) (now (words .exit)) (r .answer) (r .count) (r .line) ⌝ }
 {
     listing::read(text, words)
+}
+
+// Mends the words of a buffer that are in use, where they stand, and reports every change.
+#[no_mangle]
+pub extern "C" fn plus_mend(words: &mut [u16], used: usize, report: &mut [u64]) -> Mended
+    ensures { λ r. ⌜ MendTold (now (words .entry)) used (now (report .entry)) (now (words .exit)) (now (report .exit)) r ⌝ }
+{
+    mend::mend(words, used, report)
+}
+
+// A change of a report, by its number from 0.
+#[no_mangle]
+pub extern "C" fn plus_change(report: &[u64], number: usize) -> Change
+    ensures { λ r. ⌜ r ≡ changeAt (now (report .entry)) number ⌝ }
+{
+    mend::change_at(report, number)
 }
 
 // A record of a take as a number of 64 bits.

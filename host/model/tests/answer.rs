@@ -5,7 +5,7 @@ use plus::Answer;
 use std::fs;
 
 /// The tables of the documents: the numbers, and what they are for.
-const TABLE: [Answer; 16] = [
+const TABLE: [Answer; 18] = [
     Answer::Done,
     Answer::WrongLength,
     Answer::NotMapped,
@@ -22,6 +22,8 @@ const TABLE: [Answer; 16] = [
     Answer::BadRecord,
     Answer::NoRoom,
     Answer::NotYours,
+    Answer::NoRoomForStop,
+    Answer::ReportTooSmall,
 ];
 
 /// The lines of the header from one that ends so, up to one that begins so.
@@ -42,7 +44,7 @@ fn numbers() {
         assert!(answer == number && answer != number + 1);
         assert_eq!(answer.served().is_ok(), number == 0);
     }
-    assert_eq!(Answer::try_from(16), Err(16));
+    assert_eq!(Answer::try_from(18), Err(18));
     assert_eq!(Answer::try_from(255), Err(255));
 }
 

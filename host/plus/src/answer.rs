@@ -23,7 +23,8 @@ pub enum Answer {
     /// The call was served.
     Done = 0,
     /// A lent buffer has the wrong length: page read and write, undo, export, line
-    /// step, drawing, forecast, playing a take.
+    /// step, drawing, forecast, playing a take. Or it has fewer words than are in use:
+    /// mending a list.
     WrongLength = 1,
     /// The address is not of the page, or the page is not mapped: page read and
     /// write.
@@ -59,11 +60,16 @@ pub enum Answer {
     NoRoom = 14,
     /// The register is not this editor's, by the table that holds: page write.
     NotYours = 15,
+    /// No word in use has STOP, and the buffer has no room for one after them:
+    /// mending a list.
+    NoRoomForStop = 16,
+    /// The report has no room for all changes: mending a list.
+    ReportTooSmall = 17,
 }
 
 impl Answer {
     /// All of them, each at its number's place.
-    pub const ALL: [Answer; 16] = [
+    pub const ALL: [Answer; 18] = [
         Answer::Done,
         Answer::WrongLength,
         Answer::NotMapped,
@@ -80,6 +86,8 @@ impl Answer {
         Answer::BadRecord,
         Answer::NoRoom,
         Answer::NotYours,
+        Answer::NoRoomForStop,
+        Answer::ReportTooSmall,
     ];
 
     /// Its number, as the C interface has it.
@@ -139,6 +147,8 @@ impl fmt::Display for Answer {
             Answer::BadRecord => "a record is bad",
             Answer::NoRoom => "there is no room for the take",
             Answer::NotYours => "the register is not this editor's",
+            Answer::NoRoomForStop => "the list has no STOP, and there is no room for one",
+            Answer::ReportTooSmall => "the report has no room for all changes",
         })
     }
 }

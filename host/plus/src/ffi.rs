@@ -1,6 +1,7 @@
 //! `include/plus.h` in Rust: the calls as the library exports them.
 
 use crate::listing::{Printed, ReadBack};
+use crate::mend::{Change, Mended};
 use crate::state::Aligned;
 use crate::take::{Opened, Record, RecordRead, Written, COUNTS};
 use crate::version::Built;
@@ -108,6 +109,14 @@ extern "C" {
         words: *mut u16,
         words_length: usize,
     ) -> ReadBack;
+    pub(crate) fn plus_mend(
+        words: *mut u16,
+        words_length: usize,
+        used: usize,
+        report: *mut u64,
+        report_length: usize,
+    ) -> Mended;
+    pub(crate) fn plus_change(report: *const u64, report_length: usize, number: usize) -> Change;
     pub(crate) fn plus_take_pack(entry: Record) -> u64;
     pub(crate) fn plus_take_unpack(number: u64) -> Record;
     pub(crate) fn plus_take_write(

@@ -17,9 +17,9 @@
 //! them may write what; while none is given both may write everything, and a host
 //! with one editor can name either, always the same.
 //!
-//! [`listing`] prints a sound list as text and reads such a text back. [`take`]
-//! writes, opens and plays takes, and has a [`Recorder`](take::Recorder) that makes
-//! one of the calls on a chip.
+//! [`listing`] prints a sound list as text and reads such a text back. [`mend`]
+//! makes an old sound list a good one. [`take`] writes, opens and plays takes, and
+//! has a [`Recorder`](take::Recorder) that makes one of the calls on a chip.
 //!
 //! A sound list forecast, then played on channel 0 up to its STOP:
 //!
@@ -163,6 +163,7 @@ mod ffi;
 mod forecast;
 pub mod kind;
 pub mod listing;
+pub mod mend;
 mod palette;
 mod state;
 pub mod take;
