@@ -5,6 +5,7 @@ mod forecast;
 mod frame;
 mod install;
 mod list;
+mod mend;
 mod play;
 mod read;
 mod records;
@@ -30,6 +31,7 @@ const COMMANDS: &[Command] = &[
     forecast::COMMAND,
     list::COMMAND,
     read::COMMAND,
+    mend::COMMAND,
     scene::COMMAND,
     run::COMMAND,
     take::COMMAND,

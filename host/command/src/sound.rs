@@ -44,6 +44,16 @@ fn words_in(file: &[u8]) -> Result<(Vec<u16>, Option<String>), String> {
             None => odd.to_string(),
         });
     }
-    let word = |bytes: &[u8]| u16::from_le_bytes([bytes[0], bytes[1]]);
-    Ok((file.chunks_exact(2).map(word).collect(), doubt))
+    Ok((words(file), doubt))
+}
+
+/// Words of two bytes each, low byte first.
+pub fn words(bytes: &[u8]) -> Vec<u16> {
+    let word = |pair: &[u8]| u16::from_le_bytes([pair[0], pair[1]]);
+    bytes.chunks_exact(2).map(word).collect()
+}
+
+/// The bytes of words.
+pub fn bytes(words: &[u16]) -> Vec<u8> {
+    words.iter().flat_map(|word| word.to_le_bytes()).collect()
 }

@@ -9,6 +9,7 @@ mod interrupts;
 mod line;
 mod listing;
 mod lock;
+mod mend;
 mod page;
 mod ports;
 mod replay;
@@ -19,6 +20,7 @@ mod undo;
 pub use draw::byte_address;
 pub use forecast::{forecast, list, Length};
 pub use listing::{print, read};
+pub use mend::{change, mend};
 pub use page::grey;
 pub use replay::{replay, Replay};
 pub use take::{take_open, take_record, take_write, Record};
@@ -43,6 +45,8 @@ pub mod answer {
     pub const BAD_RECORD: u8 = 13;
     pub const NO_ROOM: u8 = 14;
     pub const NOT_YOURS: u8 = 15;
+    pub const NO_ROOM_FOR_STOP: u8 = 16;
+    pub const REPORT_TOO_SMALL: u8 = 17;
 }
 
 /// Lengths of the lent buffers.

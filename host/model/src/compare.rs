@@ -5,6 +5,7 @@
 mod call;
 mod differ;
 pub mod listing;
+pub mod mend;
 mod phrases;
 pub mod replay;
 mod script;

@@ -54,6 +54,7 @@ mod export;
 mod interrupts;
 mod line;
 mod listing;
+mod mend;
 mod page;
 mod ports;
 mod processor;
@@ -82,6 +83,15 @@ pub use listing::{
     BadLineFrom0, BeyondCleared, BlankAfter, CarriageReturns, LeadingZero, LfLeftOut, LowerRead,
     LowerWritten, NamedAsWord, PartPrinted, PartRead, Pause0AsWord, RoomBeforeForm, RoomForLongest,
     StopBeforeInt, StrayPassedOver,
+};
+pub use mend::{
+    AddedStopFirst, AddedStopNotInUse, AddedStopOver0, AddedStopReportedIfOther,
+    AddedStopUnreported, AllInUseRefused, BeyondMended, BeyondReportCleared, ChangesFrom1,
+    Code3Stays, CodeFStays, FullReportRefused, HalfAChange, HalfAChangeRead, InUseBy32Bits,
+    InUseThoughRefused, IntCleared, JoinedStopUnseen, LastChangeBeyond, LengthTestedLast,
+    LoopCleared, LowBitsOfReserved, MendedThoughRefused, NoneInUseLeft, OldForNew, Pause0Stays,
+    PausesGone, PlaceBy32Bits, PlacesFall, PlacesFrom1, ReportBeforeStop, ReportedThoughRefused,
+    StopBeyondSeen, StopByBitAlone, StopCleared, StopOf5020, StrayBitsStay, StrayStopUnseen,
 };
 pub use page::{
     HighByteOfBits, LengthLast, NoMirrors, OneKindOfNothing, PauseEndedByStart,

@@ -6,6 +6,7 @@ mod convert;
 
 use crate::chip::{self, Did, Kind, Model};
 use plus::listing::{self, Printed, ReadBack};
+use plus::mend::{self, Change, Mended};
 use plus::take::{self, Opened, Record, RecordRead, Replayed, Written, COUNTS};
 use plus::{kind, Access, Answer, Chip, Editing, Editor, Length, Report, State, Table};
 use std::marker::PhantomData;
@@ -206,6 +207,12 @@ calls! {
         /// A text read back as words.
         fn read(text: &[u8], words: &mut [u16]) -> ReadBack = listing::read;
 
+        /// Words mended, so many of a buffer.
+        fn mend(words: &mut [u16], used: usize, report: &mut [u64]) -> Mended = mend::mend;
+
+        /// A report's change of a number.
+        fn mend_change(report: &[u64], number: usize) -> Change = mend::change;
+
         /// A record as a number.
         fn take_pack(record: Record) -> u64 = take::pack;
 
@@ -374,6 +381,20 @@ impl Machine for Model {
             count,
             line,
         }
+    }
+
+    fn mend(words: &mut [u16], used: usize, report: &mut [u64]) -> Mended {
+        let (number, used, changes) = chip::mend(words, used, report);
+        Mended {
+            answer: answer(number),
+            used,
+            changes,
+        }
+    }
+
+    fn mend_change(report: &[u64], number: usize) -> Change {
+        let (place, old, new) = chip::change(report, number);
+        Change { place, old, new }
     }
 
     fn take_pack(record: Record) -> u64 {

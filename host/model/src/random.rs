@@ -164,13 +164,45 @@ pub fn any_accesses(random: &mut Random) -> [Access; 3] {
 pub fn any_list(random: &mut Random) -> Vec<u16> {
     let length = random.either(10, 120, 16);
     let mut words: Vec<u16> = (0..length).map(|_| any_word(random)).collect();
-    // The STOP may carry LOOP, INT and bits that mean nothing.
-    words.push(match random.below(3) {
+    words.push(any_stop(random));
+    words
+}
+
+/// A STOP, which may carry LOOP, INT and bits that mean nothing.
+fn any_stop(random: &mut Random) -> u16 {
+    match random.below(3) {
         0 => 0x4020,
         1 => 0x4021 | random.next() as u16 & 0x0FFF,
         _ => 0x4020 | random.next() as u16 & 0x0FFF,
-    });
+    }
+}
+
+/// A list as an old tool may have left it, which can be empty. Half of the times a
+/// STOP stands somewhere in it.
+pub fn old_list(random: &mut Random) -> Vec<u16> {
+    let length = random.either(10, 60, 10);
+    let mut words: Vec<u16> = (0..length).map(|_| old_word(random)).collect();
+    if random.chance(2) {
+        let at = random.below(length + 1) as usize;
+        words.insert(at, any_stop(random));
+    }
     words
+}
+
+/// Any word but a STOP: also of each reserved code, some with a STOP's bit, 1000h,
+/// and control words with bits that mean nothing.
+fn old_word(random: &mut Random) -> u16 {
+    const RESERVED: [u16; 12] = [3, 5, 6, 7, 8, 9, 10, 11, 12, 13, 14, 15];
+    let low = random.next() as u16 & 0x0FFF;
+    match random.below(8) {
+        0 => 0x1000,
+        1 => random.pick(&RESERVED) << 12 | low,
+        2 => random.pick(&RESERVED) << 12 | 0x0020,
+        3 => 0x4000 | low & 0x0FDF,
+        4 => 0x4000 | low & 0x0011,
+        5 => low,
+        _ => any_word(random),
+    }
 }
 
 /// Any word but a STOP.

@@ -1,7 +1,7 @@
 //! The core against the model over a million random calls, and that the
 //! comparison can fail.
 
-use model::compare::{compare, listing, replay, take, Call};
+use model::compare::{compare, listing, mend, replay, take, Call};
 use model::machine::{Fault, Faulty};
 use model::{fault, Model};
 
@@ -138,21 +138,68 @@ fn printer_and_reader_are_the_models() {
     }
 }
 
-/// A test for each fault of the printer or the reader: it is seen.
-macro_rules! listing_caught {
-    ($($fault:ident),+) => {$(
+/// A test for each fault that is seen in so many of what is compared.
+macro_rules! seen {
+    (in $module:ident::$compared:ident($count:literal): $($fault:ident),+) => {$(
         #[test]
         #[allow(non_snake_case)]
         fn $fault() {
-            assert!(listing::changed_texts::<Faulty<fault::$fault>>(200_000, 1).is_err());
+            assert!($module::$compared::<Faulty<fault::$fault>>($count, 1).is_err());
         }
     )+};
 }
 
-listing_caught! {
+seen! {
+    in listing::changed_texts(200_000):
     LowerWritten, Pause0AsWord, StrayPassedOver, StopBeforeInt, RoomForLongest, PartPrinted,
     BeyondCleared, LeadingZero, NamedAsWord, LowerRead, CarriageReturns, BlankAfter, LfLeftOut,
     RoomBeforeForm, BadLineFrom0, PartRead
+}
+
+#[test]
+fn mending_is_the_models() {
+    let tallies = mend::each_word::<Model>().and_then(|each| {
+        let lists = mend::old_lists::<Model>(20_000, 1)?;
+        Ok([each, lists])
+    });
+    for tally in tallies.unwrap_or_else(|difference| panic!("{difference}")) {
+        println!("{tally:?}");
+        for number in [0, 1, 16, 17] {
+            assert!(tally.answers[number] >= 20_000, "{tally:?}");
+        }
+        let others: u64 = tally.answers[2..16].iter().sum();
+        assert_eq!(others, 0, "{tally:?}");
+        assert!(tally.added >= 20_000, "{tally:?}");
+        assert!(tally.changes >= 50_000, "{tally:?}");
+    }
+}
+
+/// A STOP is added over one, and as often over other words.
+#[test]
+fn stops_are_added_over_stops() {
+    let tally = mend::old_lists::<Model>(1_000, 2).unwrap();
+    println!("{tally:?}");
+    assert!(tally.over_the_same >= 1_000, "{tally:?}");
+    assert!(tally.added >= 2 * tally.over_the_same, "{tally:?}");
+}
+
+/// All sets of reasons to refuse a call that mends.
+#[test]
+fn refused_mendings_are_the_models() {
+    let tally = mend::refusals::<Model>().unwrap_or_else(|difference| panic!("{difference}"));
+    let answers = [0, 1, 16, 17].map(|number| tally.answers[number]);
+    assert_eq!(answers, [1, 4, 2, 1]);
+}
+
+seen! {
+    in mend::old_lists(20_000):
+    AddedStopFirst, AddedStopNotInUse, AddedStopOver0, AddedStopReportedIfOther,
+    AddedStopUnreported, AllInUseRefused, BeyondMended, BeyondReportCleared, ChangesFrom1,
+    Code3Stays, CodeFStays, FullReportRefused, HalfAChange, HalfAChangeRead, InUseBy32Bits,
+    InUseThoughRefused, IntCleared, JoinedStopUnseen, LastChangeBeyond, LengthTestedLast,
+    LoopCleared, LowBitsOfReserved, MendedThoughRefused, NoneInUseLeft, OldForNew, Pause0Stays,
+    PausesGone, PlaceBy32Bits, PlacesFall, PlacesFrom1, ReportBeforeStop, ReportedThoughRefused,
+    StopBeyondSeen, StopByBitAlone, StopCleared, StopOf5020, StrayBitsStay, StrayStopUnseen
 }
 
 #[test]
@@ -227,18 +274,24 @@ take_caught! {
 
 /// A test for each order of refusals: it is seen where all sets of faults are.
 macro_rules! order_caught {
-    ($($module:ident: $fault:ident),+) => {$(
+    ($($calls:ident { $($order:ident: $fault:ident),+ })+) => {$($(
         #[test]
-        fn $module() {
-            assert!(take::refusals::<Faulty<fault::$fault>>().is_err());
+        fn $order() {
+            assert!($calls::refusals::<Faulty<fault::$fault>>().is_err());
         }
-    )+};
+    )+)+};
 }
 
 order_caught! {
-    twelve_before_eleven: MetBeforeLetters,
-    thirteen_before_twelve: RecordsBeforeMet,
-    fourteen_before_thirteen: RoomBeforeRecords
+    take {
+        twelve_before_eleven: MetBeforeLetters,
+        thirteen_before_twelve: RecordsBeforeMet,
+        fourteen_before_thirteen: RoomBeforeRecords
+    }
+    mend {
+        seventeen_before_sixteen: ReportBeforeStop,
+        sixteen_and_seventeen_before_one: LengthTestedLast
+    }
 }
 
 /// Sessions made by hand, and the takes of their calls.
@@ -262,18 +315,8 @@ fn takes_play_as_by_hand() {
     }
 }
 
-/// A test for each fault of a replay: it is seen.
-macro_rules! replay_caught {
-    ($($fault:ident),+) => {$(
-        #[test]
-        #[allow(non_snake_case)]
-        fn $fault() {
-            assert!(replay::sessions::<Faulty<fault::$fault>>(10_000, 1).is_err());
-        }
-    )+};
-}
-
-replay_caught! {
+seen! {
+    in replay::sessions(10_000):
     CountedTogether, FirstRecordSkipped, LinesAfterTheCall, NoLinesInModeThree, NotFromReset,
     OneLineMore, PlayedUpToBad, RefusedCallEnds, RefusedNotCounted, TakeBeforeLengths,
     PictureUndoOfSong, PictureWriteOfSong, TableNotLent

@@ -7,6 +7,7 @@ use crate::failure::Failure;
 use crate::files::Files;
 use crate::given::Given;
 use crate::output::Output;
+use crate::sound::words;
 use crate::Done;
 use plus::{listing, RAM};
 
@@ -15,10 +16,7 @@ pub const COMMAND: Command = Command { name: "list", run };
 fn run(given: &Given, output: &mut Output) -> Done {
     let start = start(given)?;
     let file = Files::of(given).contents(given.path(0))?;
-    let words: Vec<u16> = listed(given, &file, start)?
-        .chunks_exact(2)
-        .map(|bytes| u16::from_le_bytes([bytes[0], bytes[1]]))
-        .collect();
+    let words = words(listed(given, &file, start)?);
     match given.flag("--asm") {
         true => output.text(asm::words(&words).as_bytes()),
         false => output.text(&listing::text_of(&words)),

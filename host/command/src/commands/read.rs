@@ -6,6 +6,7 @@ use crate::files::Files;
 use crate::given::Given;
 use crate::hint::hint;
 use crate::output::Output;
+use crate::sound::bytes;
 use crate::Done;
 use plus::listing::{words_of, BadLine};
 use plus::Answer;
@@ -18,8 +19,7 @@ fn run(given: &Given, output: &mut Output) -> Done {
     let text = files.contents(given.path(0))?;
     let out = files.place(given.path(1))?;
     let words = words_of(&text).map_err(|bad| refused(bad, &text, given.path(0)))?;
-    let bytes: Vec<u8> = words.iter().flat_map(|word| word.to_le_bytes()).collect();
-    out.write(bytes)?;
+    out.write(bytes(&words))?;
     output.line(format_args!("words {}", words.len()))
 }
 

@@ -1,6 +1,6 @@
 //! `plus forecast`.
 
-use crate::tools::{plus, repository, Folder};
+use crate::tools::{bytes, plus, repository, Folder};
 use plus::RAM;
 
 /// An image with LOAD 7 38h, PAUSE 2, STOP at 8000h.
@@ -14,11 +14,6 @@ fn image() -> Vec<u8> {
 fn wrong(what: &str) -> String {
     let usage = "usage: plus forecast FILE [START] [PRESCALE]\n`plus help forecast` says more";
     format!("plus: forecast: {what}\n{usage}\n")
-}
-
-/// Words as bytes, low byte first.
-fn bytes(words: &[u16]) -> Vec<u8> {
-    words.iter().flat_map(|word| word.to_le_bytes()).collect()
 }
 
 #[test]

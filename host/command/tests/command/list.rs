@@ -1,13 +1,8 @@
 //! `plus list`.
 
-use crate::tools::{plus, repository, Folder};
+use crate::tools::{bytes, plus, repository, Folder};
 use plus::RAM;
 use std::fs;
-
-/// Words as bytes, low byte first.
-fn bytes(words: &[u16]) -> Vec<u8> {
-    words.iter().flat_map(|word| word.to_le_bytes()).collect()
-}
 
 /// An image with words at an address.
 fn image(start: usize, words: &[u16]) -> Vec<u8> {

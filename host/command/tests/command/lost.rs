@@ -29,6 +29,7 @@ impl Writer {
 /// All of them, with good inputs in a folder.
 fn writers(folder: &Folder) -> Vec<Writer> {
     let text = folder.file("song.txt", b"LOAD 7 38\nPAUSE 2\nSTOP\n");
+    let words = folder.file("words", &[0x00, 0x10, 0x20, 0x40]);
     let records = folder.file("records.txt", b"0 1 0 9\n0 2 0 7\n");
     let comment = folder.file("comment", b"rows of 8 lines");
     let scene = folder.file("a.scene", &Scene::new().record('B', 0, 9).bytes());
@@ -54,6 +55,7 @@ fn writers(folder: &Folder) -> Vec<Writer> {
     };
     vec![
         writer(&["read", &text], &[], "words 3\n"),
+        writer(&["mend", &words], &[], "0 1000 4000\nwords 2\n"),
         writer(&["take", &records], &[&comment], ""),
         writer(&["export", &scene], &[], "159 registers\n"),
         writer(&["frame", &scene], &[], "640 x 1\n"),

@@ -7,6 +7,7 @@ mod frame;
 mod install;
 mod list;
 mod lost;
+mod mend;
 mod play;
 mod read;
 mod run;

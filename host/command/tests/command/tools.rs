@@ -92,6 +92,11 @@ impl Drop for Folder {
     }
 }
 
+/// Words as bytes, low byte first.
+pub fn bytes(words: &[u16]) -> Vec<u8> {
+    words.iter().flat_map(|word| word.to_le_bytes()).collect()
+}
+
 /// A scene being written.
 pub struct Scene {
     pub ram: Vec<u8>,

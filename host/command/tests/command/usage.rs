@@ -5,10 +5,11 @@ use std::ffi::OsStr;
 use std::os::unix::ffi::OsStrExt;
 
 /// Each command with its arguments, and its options last if it has some.
-const COMMANDS: [(&str, &[&str]); 11] = [
+const COMMANDS: [(&str, &[&str]); 12] = [
     ("forecast", &["FILE", "[START]", "[PRESCALE]"]),
     ("list", &["FILE", "[START]", "[--asm]"]),
     ("read", &["TEXT", "OUT"]),
+    ("mend", &["WORDS", "OUT"]),
     ("scene", &["TEXT", "OUT"]),
     ("run", &["FILE", "[--take OUT]", "[--table FILE]"]),
     ("take", &["RECORDS", "OUT", "[COMMENT]"]),
@@ -28,6 +29,7 @@ usage: plus COMMAND ...
   forecast FILE [START] [PRESCALE]       how long a sound list plays
   list FILE [START] [--asm]              a sound list as text, a line a word
   read TEXT OUT                          the words of such a text, into a file
+  mend WORDS OUT                         the words of an old sound list, mended
   scene TEXT OUT                         a scene, made from text
   run FILE [--take OUT] [--table FILE]   what each record of a scene answers
   take RECORDS OUT [COMMENT]             a take, that is calls with their lines

@@ -9,6 +9,7 @@ use model::chip::{self, Model};
 use model::random::{any_records, mixed_word, Random};
 use model::under_test::UnderTest;
 use plus::listing::{self, LONGEST_LINE};
+use plus::mend::{self, CHANGE};
 use plus::take::{self, kind, Record};
 use plus::{Chip, Editor, Table, EXPORT, LINE, PLACES, RAM, STORE, UNLOCK};
 use std::env;
@@ -31,6 +32,7 @@ enum Work {
     Forecast,
     Print,
     Read,
+    Mend,
     TakeWrite,
     TakeOpen,
     Replay,
@@ -41,6 +43,9 @@ enum Work {
 /// a STOP: how often, and for how many lines.
 const STRETCHES: u32 = 100;
 const STRETCH: u32 = 10_000;
+
+/// A list is mended once, so there are as many of the same as a timed run mends.
+const LISTS: usize = 20;
 
 /// A row of the table: how many calls one timed run makes, how many sprites are
 /// on every line, and the screen mode.
@@ -74,7 +79,7 @@ const fn case(name: &'static str, work: Work, count: usize, sprites: u16, mode: 
     }
 }
 
-const CASES: [Case; 36] = [
+const CASES: [Case; 37] = [
     case("line step", Work::Step, 100_000, 0, 1),
     case("page write", Work::PageWrite, 100_000, 0, 1),
     case("page read", Work::PageRead, 100_000, 0, 1),
@@ -208,6 +213,7 @@ const CASES: [Case; 36] = [
     case("forecast, 32,767 words", Work::Forecast, 20, 0, 1),
     case("print, 30,000 words", Work::Print, 20, 0, 1),
     case("read, 30,000 words", Work::Read, 20, 0, 1),
+    case("mend, 30,000 words", Work::Mend, LISTS, 0, 1),
     case("write, 100,000 records", Work::TakeWrite, 20, 0, 1),
     case("open, 100,000 records", Work::TakeOpen, 20, 0, 1),
     case("replay, 1,000,000 lines", Work::Replay, 1, 0, 1),
@@ -215,8 +221,9 @@ const CASES: [Case; 36] = [
 ];
 
 /// What both are given: RAM with a screen and a list that never ends before its
-/// last word, a store of opaque pixels, words of all kinds and their text, records
-/// of all kinds and their take, room for these, and a take to be played.
+/// last word, a store of opaque pixels, words of all kinds and their text, the same
+/// words to be mended, records of all kinds and their take, room for these and for
+/// the changes of the words, and a take to be played.
 struct Lent {
     ram: Vec<u8>,
     store: Vec<u8>,
@@ -226,6 +233,8 @@ struct Lent {
     text: Vec<u8>,
     text_room: Vec<u8>,
     words_room: Vec<u16>,
+    lists: Vec<Vec<u16>>,
+    report_room: Vec<u64>,
     records: Vec<u64>,
     take: Vec<u8>,
     take_room: Vec<u8>,
@@ -254,6 +263,8 @@ fn lent() -> Lent {
         text: listing::text_of(&words),
         text_room: vec![0; LONGEST_LINE * words.len()],
         words_room: vec![0; words.len()],
+        lists: vec![words.clone(); LISTS],
+        report_room: vec![0; CHANGE * words.len()],
         words,
         records: records.into_iter().map(take::pack).collect(),
         take_room: vec![0; take.len()],
@@ -329,8 +340,8 @@ fn moved(sprite: u16, frame: usize) -> [(u16, u8); 4] {
 /// have calls of the same names, and are called here with nothing between.
 macro_rules! calls_of {
     (
-        $run:ident, $machine:ident, $forecast:path, $print:path, $read:path, $write:path,
-        $open:path, $replay:path, $off:path, $song:path, $table:path
+        $run:ident, $machine:ident, $forecast:path, $print:path, $read:path, $mend:path,
+        $write:path, $open:path, $replay:path, $off:path, $song:path, $table:path
     ) => {
         fn $run(case: &Case, count: usize) -> Duration {
             let (mut machine, mut lent) = (set_up::<$machine>(case), lent());
@@ -386,6 +397,10 @@ macro_rules! calls_of {
                 Work::Read => repeat(count, |_| {
                     black_box($read(&lent.text, &mut lent.words_room));
                 }),
+                Work::Mend => repeat(count, |i| {
+                    let used = lent.words.len();
+                    black_box($mend(&mut lent.lists[i], used, &mut lent.report_room));
+                }),
                 Work::TakeWrite => repeat(count, |_| {
                     black_box($write(b"a comment", &lent.records, &mut lent.take_room));
                 }),
@@ -417,6 +432,8 @@ macro_rules! calls_of {
                 &lent.export,
                 &lent.text_room,
                 &lent.words_room,
+                &lent.lists,
+                &lent.report_room,
                 &lent.take_room,
             ));
             start.elapsed()
@@ -430,6 +447,7 @@ calls_of!(
     plus::forecast,
     listing::print,
     listing::read,
+    mend::mend,
     take::write,
     take::open,
     take::replay,
@@ -443,6 +461,7 @@ calls_of!(
     chip::forecast,
     chip::print,
     chip::read,
+    chip::mend,
     chip::take_write,
     chip::take_open,
     chip::replay,

@@ -1,14 +1,16 @@
 //! Compares the core with the model: `compare [CALLS [SEED]]`, by default one
-//! million calls from seed 1. Every word is printed and read too, a text for every
-//! five calls, and a take for every ten; a session is recorded and its takes played
-//! for every hundred.
+//! million calls from seed 1. Every word is printed, read and mended too, a text for
+//! every five calls, a take for every ten and a list mended for every fifty; for every
+//! hundred a session is recorded and its takes played, and a list played on both beside
+//! what it is mended to.
 
 use std::env;
 use std::process::ExitCode;
 use std::time::Instant;
 
-use model::compare::{compare, listing, replay, take};
+use model::compare::{compare, listing, mend, replay, take};
 use model::Model;
+use plus::Chip;
 
 fn main() -> ExitCode {
     let mut numbers = env::args().skip(1).map(|word| word.parse());
@@ -42,6 +44,7 @@ fn compared(count: u64, seed: u64) -> Result<(), String> {
     listing::each_word::<Model>()?;
     let answers = listing::changed_texts::<Model>(count / 5, seed)?;
     println!("{} texts, {} of them refused 7", count / 5, answers[7]);
+    mended(count, seed)?;
     take::refusals::<Model>()?;
     let short = take::short_files::<Model>(count / 200, seed)?;
     let takes = take::changed_takes::<Model>(count / 10, seed)?;
@@ -56,5 +59,32 @@ fn compared(count: u64, seed: u64) -> Result<(), String> {
         "{takes} takes of {} sessions played, {lines} lines",
         count / 100
     );
+    Ok(())
+}
+
+/// The same of lists that are mended.
+fn mended(count: u64, seed: u64) -> Result<(), String> {
+    mend::refusals::<Model>()?;
+    mend::each_word::<Model>()?;
+    let lists = mend::old_lists::<Model>(count / 50, seed)?;
+    let (changes, added) = (lists.changes, lists.added);
+    println!(
+        "{} lists mended, {changes} changes, {added} of them a STOP",
+        count / 50
+    );
+    for (number, name) in [
+        (1, "too many in use"),
+        (16, "no room for a STOP"),
+        (17, "report too small"),
+    ] {
+        println!("{name}: {} times", lists.answers[number]);
+    }
+    for played in [
+        mend::played::lists::<Chip>(count / 100, seed)?,
+        mend::played::lists::<Model>(count / 100, seed)?,
+    ] {
+        let (stopped, ended, lines) = (played.stopped, played.ended, played.lines);
+        println!("{stopped} lists played to a STOP and {ended} to their end, {lines} lines");
+    }
     Ok(())
 }

@@ -1,15 +1,7 @@
 //! The length of a sound list, by the rule and without playing it.
 
-use super::sound::{kind_of, word_at, LOOP, STOP};
+use super::sound::{control, kind_of, word_at, LOOP, STOP};
 use super::{answer, Kind, RAM};
-
-/// The control bits of a word, 0 if it isn't a control word.
-fn control(word: u16) -> u16 {
-    match kind_of(word) {
-        Kind::Control => word & 0x0FFF,
-        _ => 0,
-    }
-}
 
 /// The address of the first STOP from `start` on, or why there is none.
 fn find_stop(ram: &[u8], start: u16) -> Result<u16, u8> {

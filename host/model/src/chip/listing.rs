@@ -1,9 +1,7 @@
 //! A list of words as text, and such a text read back.
 
-use super::sound::{kind_of, INT, LOOP, STOP};
+use super::sound::{kind_of, INT, LOOP, NOP, STOP};
 use super::{answer, Kind};
-
-const NOP: u16 = 0x4000;
 
 /// The answer, and how many bytes of the text were written.
 pub fn print(words: &[u16], text: &mut [u8]) -> (u8, usize) {

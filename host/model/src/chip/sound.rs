@@ -20,9 +20,19 @@ pub(super) fn kind_of(word: u16) -> Kind {
     }
 }
 
+/// A control word with none of its bits set, and these bits.
+pub(super) const NOP: u16 = 0x4000;
 pub(super) const LOOP: u16 = 0x001;
 pub(super) const INT: u16 = 0x010;
 pub(super) const STOP: u16 = 0x020;
+
+/// The control bits of a word, 0 if it isn't a control word.
+pub(super) fn control(word: u16) -> u16 {
+    match kind_of(word) {
+        Kind::Control => word & 0x0FFF,
+        _ => 0,
+    }
+}
 
 impl Channel {
     /// Counts one line of a running pause.

@@ -14,6 +14,7 @@ mod kept;
 mod line;
 mod listing;
 mod lock;
+mod mend;
 mod page;
 mod played;
 mod ports;
