@@ -8,8 +8,8 @@
  * that could be linked with another library than its header's asks plus_fits first.
  *
  * A buffer is a pointer, never NULL, and its length: PLUS_RAM bytes for RAM, PLUS_STORE for the sprite pixel store, PLUS_LINE for
- * a drawn line, PLUS_EXPORT for an export. A text and a take have any number of bytes, and the length of sound words, of records
- * and of a report's numbers is counted in these. The buffers of one call must not overlap.
+ * a drawn line, PLUS_EXPORT for an export. A text and a take have any number of bytes, and the length of sound words, of
+ * records and of a report's numbers is counted in these. The buffers of one call must not overlap.
  *
  * Two editors work on one chip: page read, page write and undo take the number of the one that makes them, PLUS_SONG or
  * PLUS_PICTURE. plus_start gives a table of which of them may write what: bit n of its numbers is palette entry (both bytes),
@@ -51,8 +51,8 @@ extern "C" {
 /* The version of this header: 10000 times the major number, 100 times the minor one, and the patch. Another patch changes nothing
  * that a caller could see; with another minor or major number a struct may have another layout, the state above all. What each
  * version changes for a caller is in CHANGELOG.md. */
-#define PLUS_VERSION 1100
-#define PLUS_VERSION_TEXT "0.11.0"
+#define PLUS_VERSION 1200
+#define PLUS_VERSION_TEXT "0.12.0"
 
 enum { PLUS_RAM = 65536, PLUS_STORE = 4096, PLUS_LINE = 640, PLUS_EXPORT = 477, PLUS_PLACES = 256 };
 
@@ -71,7 +71,7 @@ enum {
     PLUS_WRONG_LENGTH = 1,      /* a buffer has another length than its call wants, or fewer words than are in use */
     PLUS_NOT_MAPPED = 2,        /* the page is not mapped, or the address is not in it (4000h to 7FFFh) */
     PLUS_NOTHING_THERE = 3,     /* no register there that could be written, or no record with that number */
-    PLUS_MODE_THREE = 4,        /* a line in screen mode 3 can't be drawn */
+    PLUS_MODE_THREE = 4,        /* a line in screen mode 3 can't be drawn, and is not stepped either */
     PLUS_NO_INTERRUPT = 5,      /* nothing to acknowledge */
     PLUS_NO_STOP = 6,           /* the list has no STOP up to the end of RAM */
     PLUS_NOT_LISTING = 7,       /* a line of the text is no word's */
@@ -279,7 +279,7 @@ typedef struct {
 /* One call of a take. It is bad if its kind is none of the above, if its kind has no address or no value and that is not 0, or if
  * its line number is below that of the record before it. */
 typedef struct {
-    uint32_t line; /* line steps from the reset up to the call */
+    uint32_t line; /* lines from the reset up to the call: of plus_line the served calls */
     uint8_t kind;  /* PLUS_TAKE_WRITE_BC to PLUS_TAKE_START */
     uint16_t address;
     uint8_t value;
@@ -359,13 +359,12 @@ uint8_t plus_export(PlusChip chip, uint8_t *out, size_t out_length);
 /* Serves the waiting interrupt that comes first and gives its vector. Answers 0 or 5. */
 PlusAcknowledged plus_acknowledge(PlusChip chip);
 
-/* One line: sound, raster compare, split compare, counters. The last three numbers say what the processor does at the 8255, for
- * channels 0, 1 and 2; they change the line's cycles and nothing else. Answers 0 or 1. */
-PlusStepped plus_step(PlusChip chip, const uint8_t *ram, size_t ram_length, uint8_t first, uint8_t second, uint8_t third);
-
-/* Draws the current line: each of the PLUS_LINE bytes becomes a palette entry. Answers 0, 1 or 4. */
-uint8_t plus_draw(PlusChip chip, const uint8_t *ram, size_t ram_length, const uint8_t *store, size_t store_length, uint8_t *line,
-                  size_t line_length);
+/* A line: it is drawn, and then the chip stepped. Each of the PLUS_LINE bytes becomes the number of a palette entry, by the state
+ * before the call; the state that comes back is the next line's, after sound, raster compare, split compare and counters. The last
+ * three numbers say what the processor does at the 8255, for channels 0, 1 and 2; they change the line's cycles and nothing else.
+ * Refused, it does neither, and no line has passed. Answers 0, 1 or 4. */
+PlusStepped plus_line(PlusChip chip, const uint8_t *ram, size_t ram_length, const uint8_t *store, size_t store_length,
+                      uint8_t *line, size_t line_length, uint8_t first, uint8_t second, uint8_t third);
 
 /* The grey of a palette entry, 0 to 195, from its two bytes. No answer number. */
 uint8_t plus_grey(uint8_t low, uint8_t high);
@@ -412,10 +411,10 @@ PlusOpened plus_take_open(const uint8_t *file, size_t file_length);
  * answers that, and then 3 with any other number than 1 to the count. Answers 0, 3, 11 or 12. */
 PlusRecordRead plus_take_record(const uint8_t *file, size_t file_length, size_t number);
 
-/* Plays a take from reset, record by record: lines are stepped, with the processor off the 8255 and nothing drawn, until there are
- * as many as the record's line number says, and its call is made. Every start of the take gives this table. A call that is refused
- * is counted and passed over. The whole take is tested before anything is played. The places are then those of the chip it gives,
- * the song editor's and the picture editor's. Answers 0, 1, 11, 12 or 13. */
+/* Plays a take from reset, record by record: lines are stepped, with nothing drawn and the processor off the 8255, in any screen
+ * mode, until there are as many as the record's line number says, and its call is made. Every start of the take gives this table. A
+ * call that is refused is counted and passed over. The whole take is tested before anything is played. The places are then those of
+ * the chip it gives, the song editor's and the picture editor's. Answers 0, 1, 11, 12 or 13. */
 PlusReplayed plus_replay(const uint8_t *ram, size_t ram_length, uint8_t *store, size_t store_length, uint32_t song[PLUS_PLACES],
                          uint32_t picture[PLUS_PLACES], PlusTable table, const uint8_t *file, size_t file_length);
 

@@ -1,5 +1,5 @@
-/* A frame of 312 lines in mode 1, each drawn and stepped, as a host in C has it: what the bench of host/model times beside the Rust
- * wrapper. usage: frame SPRITES FRAMES, which prints the nanoseconds of so many frames and a sum over the line after them. */
+/* A frame of 312 lines in mode 1, each drawn and stepped by one call, as a host in C has it: what the bench of host/model times beside
+ * the Rust wrapper. usage: frame SPRITES FRAMES, which prints the nanoseconds of so many frames and a sum over the last line. */
 #define _POSIX_C_SOURCE 199309L
 #include <stdio.h>
 #include <stdlib.h>
@@ -69,8 +69,7 @@ static PlusChip set_up(unsigned sprites) {
 
 static PlusChip frame(PlusChip chip) {
     for (int n = 0; n < LINES; n++) {
-        served(plus_draw(chip, ram, sizeof ram, store, sizeof store, line, sizeof line));
-        PlusStepped stepped = plus_step(chip, ram, sizeof ram, PLUS_OFF, PLUS_OFF, PLUS_OFF);
+        PlusStepped stepped = plus_line(chip, ram, sizeof ram, store, sizeof store, line, sizeof line, PLUS_OFF, PLUS_OFF, PLUS_OFF);
         served(stepped.answer);
         chip = stepped.chip;
     }
@@ -95,7 +94,6 @@ int main(int count, char **arguments) {
     for (unsigned long n = 0; n < frames; n++)
         chip = frame(chip);
     unsigned long long took = now() - start;
-    served(plus_draw(chip, ram, sizeof ram, store, sizeof store, line, sizeof line));
     unsigned long sum = chip.sound.channels[0].address;
     for (size_t i = 0; i < sizeof line; i++)
         sum = sum * 31 + line[i];

@@ -1,8 +1,8 @@
 /* Sees that the library is its header's, reads a sound list from text and prints it, forecasts it, then plays it on channel 0 up to its
  * STOP and counts the same numbers: the least cycles with the processor off the 8255, the most with PSG register writes on every line.
  * On the way a slider moves the prescale, and the gesture is undone. The calls before the lines are written as a take, which is opened
- * and played again. A picture editor works beside the song editor, under a table that says what is whose. In the end an old list is
- * mended. */
+ * and played again. A picture editor works beside the song editor, under a table that says what is whose. In the end an old
+ * list is mended. */
 #include <stdio.h>
 #include <stdlib.h>
 #include <string.h>
@@ -13,7 +13,7 @@ static const uint8_t unlock[] = {0x01, 0x00, 0xFF, 0x77, 0xB3, 0x51, 0xA8, 0xD4,
                                  0x39, 0x9C, 0x46, 0x2B, 0x15, 0x8A, 0xCD, 0xEE};
 static const char song[] = "LOAD 7 38\nPAUSE 2\nSTOP\n";
 
-static uint8_t ram[PLUS_RAM], store[PLUS_STORE];
+static uint8_t ram[PLUS_RAM], store[PLUS_STORE], line[PLUS_LINE];
 static uint32_t places[2][PLUS_PLACES]; /* the page writes that can be undone, each editor's at its number */
 static uint64_t records[32];            /* the calls noted, all of them on line 0 */
 static size_t noted;
@@ -82,15 +82,15 @@ static PlusChip slide(PlusChip chip, uint16_t address, uint8_t events) {
     return chip;
 }
 
-/* Plays the list while the processor does one thing on every line. */
+/* Plays the list while the processor does one thing on every line. What is drawn on the way is not looked at. */
 static void play(const char *what, PlusChip chip, uint8_t access) {
     unsigned long lines = 0, cycles = 0;
     while (chip.sound.channels[0].enabled) {
-        PlusStepped line = plus_step(chip, ram, sizeof ram, access, PLUS_OFF, PLUS_OFF);
-        served("step", line.answer);
-        chip = line.chip;
+        PlusStepped stepped = plus_line(chip, ram, sizeof ram, store, sizeof store, line, sizeof line, access, PLUS_OFF, PLUS_OFF);
+        served("line", stepped.answer);
+        chip = stepped.chip;
         lines += 1;
-        cycles += line.cycles - 1; /* without the line's dead cycle */
+        cycles += stepped.cycles - 1; /* without the line's dead cycle */
     }
     printf("%s: lines %lu cycles %lu\n", what, lines, cycles);
 }

@@ -334,9 +334,15 @@ class Chip:
         return self.pen(ram, x)
 
     def draw(self, ram, store):
+        return ''.join(CHARACTERS[self.entry(ram, store, x)] for x in range(640))
+
+    # 02, L11: the line's call. In mode 3 it does neither; else the line is drawn, then stepped
+    def show(self, ram, store, processor, shown):
         if self.mode == 3:
-            return '4'
-        return '0 ' + ''.join(CHARACTERS[self.entry(ram, store, x)] for x in range(640))
+            return '4' if shown else '4 0 - - -'
+        drawn = self.draw(ram, store) + ' ' if shown else ''
+        cycles, did = self.line(ram, processor)
+        return '0 %s%d %s' % (drawn, cycles, ' '.join(did))
 
 
 def forecast(ram, start, prescale):
@@ -365,7 +371,7 @@ def forecast(ram, start, prescale):
     return '0 %d %d %d %d' % (lines, cycles, 2 * len(words), most)
 
 
-def play(ram, store, records, drawing=True):
+def play(ram, store, records):
     ram, store, chip, waiting, out = bytearray(ram), bytearray(store), Chip(), bytearray(16), []
     for i in range(0, len(records) // 4 * 4, 4):
         op, low, high, value = records[i:i + 4]
@@ -386,11 +392,8 @@ def play(ram, store, records, drawing=True):
             out.append(chip.export())
         elif op == ord('A'):
             out.append('%d %d' % chip.acknowledge())
-        elif op == ord('L'):
-            cycles, did = chip.line(ram, value)
-            out.append('0 %d %s' % (cycles, ' '.join(did)))
-        elif op == ord('P') and drawing:
-            out.append(chip.draw(ram, store))
+        elif op in b'LP':
+            out.append(chip.show(ram, store, value, op == ord('P')))
         elif op == ord('F'):
             out.append(forecast(ram, a, value))
         elif op == ord('M'):

@@ -1,16 +1,13 @@
 """Writes the pairs beside this file, and the stored run of the crate plus_run.
 
-The lines of the stored run stand here by hand, from documents 01 and 02; the model has to agree with them.
-`write.py drawing` writes it for a program that draws."""
+The lines of the stored run stand here by hand, from documents 01 and 02; the model has to agree with them."""
 import os
 import random
-import sys
 
 import model
 
 HERE = os.path.dirname(os.path.abspath(__file__))
 CRATE = os.path.join(HERE, '..', '..', 'crates', 'plus_run')
-DRAWING = sys.argv[1:] == ['drawing']
 STORE = bytes(4096)
 UNLOCK = [0xFF, 0x00] + model.KEY + [0xCD, 0x01]
 
@@ -26,10 +23,6 @@ def ram_of(lists):
 
 def rec(op, a=0, value=0):
     return bytes([ord(op), a & 255, a >> 8, value])
-
-
-def drawn(text):
-    return text if DRAWING else 'bad'
 
 
 # the addresses of an export, rising
@@ -146,20 +139,25 @@ STORED = [
     (rec('W', 0x6C09, 0x80), '0'), (rec('W', 0x6C0F, 6), '0'),
     (rec('L'), '0 12 - pause 2 load 1849'),
     (rec('W', 0x6C09, 0xA0), '0'), (rec('L'), '0 3 - - nothing 291'),
-    # drawn: VC 0 is not below R6; then 40 characters in mode 1, line 5 of the row; then mode 3
-    (rec('P'), drawn('0 ' + 'g' * 640)),
-    (rec('B', 0, 6), '0'), (rec('D', 0, 25), '0'), (rec('G', 0, 0x81), '0'),
-    (rec('M', 0x2800, 0x80), '0'), (rec('M', 0x2801, 0x0F), '0'), (rec('M', 0x284F, 0x11), '0'),
-    (rec('P'), drawn('0 11' + '0' * 6 + '2' * 8 + '0' * (640 - 18) + '33')),
-    (rec('G', 0, 0x83), '0'), (rec('P'), drawn('4')),
     # the last write, A0h to 6C09h where 80h was: channel 2 has gone on from A002h to A004h, and now is at 8004h
     (rec('U'), '0'),
     (rec('E'), exported({0x6001: 3, 0x6004: 1, 0x6800: 1, 0x6805: 0xA8, 0x6C00: 0x02, 0x6C01: 0x90, 0x6C04: 0x04, 0x6C05: 0x80,
                          0x6C08: 0x04, 0x6C09: 0x80})),
-    (rec('L'), '0 5 - control 32 control 32'),
+    # line 5 of the row shown, and stepped: VC 0 is not below R6; the address says nothing
+    (rec('P', 0x1234, 0x3F), '0 ' + 'g' * 640 + ' 5 - control 32 control 32'),
+    # line 6, 40 characters in mode 1
+    (rec('B', 0, 6), '0'), (rec('D', 0, 25), '0'), (rec('G', 0, 0x81), '0'),
+    (rec('M', 0x3000, 0x80), '0'), (rec('M', 0x3001, 0x0F), '0'), (rec('M', 0x304F, 0x11), '0'),
+    (rec('P'), '0 11' + '0' * 6 + '2' * 8 + '0' * (640 - 18) + '33 1 - - -'),
+    # mode 3: neither drawn nor stepped, so that the word of channel 0 at 9002h and line 7 are still to come
+    (rec('M', 0x3800, 0x88), '0'), (rec('W', 0x6C0F, 1), '0'), (rec('G', 0, 0x83), '0'),
+    (rec('P'), '4'), (rec('L', 0x1234, 0x15), '4 0 - - -'), (rec('R', 0x6C0F), '0 129'),
+    (rec('G', 0, 0x81), '0'), (rec('P', 0, 0x15), '0 33' + '0' * 638 + ' 3 control 49 - -'), (rec('R', 0x6C0F), '0 192'),
+    # line 0 of the next frame, with a LOAD of channel 1 at 8006h, and the processor there too
+    (rec('W', 0x6C0F, 2), '0'), (rec('P', 0, 0x08), '0 ' + '0' * 640 + ' 12 - load 0 -'), (rec('W', 0x6C0F, 0), '0'),
     # the writes before it, with the page mapped out: 80h to 6C09h and to 6C05h, where 0 was
     (rec('G', 0, 0xA0), '0'), (rec('U'), '0'), (rec('U'), '0'), (rec('R', 0x6000, 0), '2 0'),
-    (rec('E'), exported({0x6001: 3, 0x6004: 1, 0x6800: 1, 0x6805: 0xA8, 0x6C00: 0x02, 0x6C01: 0x90, 0x6C04: 0x06, 0x6C08: 0x06})),
+    (rec('E'), exported({0x6001: 3, 0x6004: 1, 0x6800: 1, 0x6805: 0xA8, 0x6C00: 0x02, 0x6C01: 0x90, 0x6C04: 0x08, 0x6C08: 0x06})),
     # RAM of zeros is all LOADs: the three channels there, from C000h on
     (rec('G', 0, 0xB8), '0'), (rec('W', 0x6C00, 0), '0'), (rec('W', 0x6C01, 0xC0), '0'), (rec('W', 0x6C04, 0), '0'),
     (rec('W', 0x6C05, 0xC0), '0'), (rec('W', 0x6C08, 0), '0'), (rec('W', 0x6C09, 0xC0), '0'), (rec('W', 0x6C0F, 7), '0'),
@@ -186,7 +184,7 @@ def stored():
     ram = ram_of(LISTS)
     records = b''.join(r for r, _ in STORED)
     text = ''.join(line + '\n' for _, line in STORED)
-    assert text == model.play(ram, STORE, records, DRAWING), 'the model says otherwise'
+    assert text == model.play(ram, STORE, records), 'the model says otherwise'
     with open(os.path.join(CRATE, 'stdin'), 'wb') as f:
         f.write(ram + STORE + records)
     with open(os.path.join(CRATE, 'stdout'), 'w') as f:
@@ -194,8 +192,8 @@ def stored():
 
 
 def mixed(seed, count):
-    """RAM, store and records of all calls but drawing, over RAM full of words with many a STOP. Now and then there are more writes in a
-    row than can be undone."""
+    """RAM and records of all calls, over RAM full of words with many a STOP. Now and then a line of 40 characters is shown, and there are
+    more writes in a row than can be undone."""
     r = random.Random(seed)
     words = [r.choice([r.randrange(4096), 0x1000 + r.randrange(4), 0x2000 + r.randrange(4), 0x4001, 0x3000, 0x4010,
                        0x5000 + r.randrange(4096), r.choice([0x4001, 0x4020, 0x4030, 0x4031])]) for _ in range(32768)]
@@ -217,6 +215,8 @@ def mixed(seed, count):
             records += rec('W', 0x6C02 + 4 * n, r.randrange(3)) + rec('W', 0x6C0F, 7) + rec('W', 0x6800, r.randrange(8))
         if r.randrange(400) == 0:
             records += rec('E', a, value)
+        if r.randrange(200) == 0:
+            records += rec('B', 0, 1) + rec('D', 0, 40) + rec('B', 0, 6) + rec('D', 0, 127) + rec('P', a, value)
         if r.randrange(4000) == 0:
             records += b''.join(rec('W', r.choice([0x4000, 0x6000, 0x6400, 0x6C00]) + r.randrange(12), r.randrange(256))
                                 for _ in range(400)) + rec('E') + rec('U') * 300 + rec('E')
@@ -248,7 +248,7 @@ def pair(name, ram, records):
     with open(os.path.join(HERE, name + '.in'), 'wb') as f:
         f.write(ram + STORE + records)
     with open(os.path.join(HERE, name + '.out'), 'w') as f:
-        f.write(model.play(ram, STORE, records, DRAWING))
+        f.write(model.play(ram, STORE, records))
 
 
 stored()

@@ -1,25 +1,32 @@
--- Laws of an order: the line of an answer, and what a letter asks for.
-use mathlib.Core.Path.{_≡_, _∙_, ap}
+-- Laws of an order: the line of an answer, a line that is stepped or shown, and what a letter asks for.
+use mathlib.Core.Path.{_≡_, sym, _∙_, ap}
 use mathlib.Core.List.{List}
-use mathlib.Core.Logic.{_≢_}
 use Prim.Native.Nat.{ℕ}
-use borrow.Author.Tests.{ne-eqb}
+use borrow.Author.Tests.{eq-eqb}
+use lib.ListN.{length, getD}
 use Rattle.common.specs.Answers.{served}
+use Rattle.common.specs.Sizes.{lineBytes}
 use Rattle.editors.specs.declared.Editor.{Editor}
 use Rattle.editors.specs.declared.Editor.the-variants.{Song, Picture}
 use Rattle.editors.specs.Table.{pick}
+use Rattle.sound.specs.declared.Accesses.{Accesses}
+use Rattle.sound.specs.Line.{soundReport}
 use Rattle.chip.specs.declared.Chip.{Chip}
 use Rattle.chip.specs.declared.Answered.{Answered}
+use Rattle.chip.specs.declared.Stepped.{Stepped}
 use Rattle.chip.specs.Contracts.{Answers}
+use Rattle.draw.specs.Drawing.{entryAt}
+use Rattle.line.specs.Contract.{Shows}
 use Rattle.page.specs.Page.{Writes}
 use Rattle.page.specs.Undo.{Undoes}
 use Rattle.runs.specs.World.{World, worldOf, withChip}
-use Rattle.runs.specs.Call.{write, undo}
-use Rattle.runs.proofs.Worlds.{answered, writing, undoing}
-use Rattle.text.specs.Lines.{oneLine}
+use Rattle.runs.specs.Call.{write, undo, answerTo, worldAfter}
+use Rattle.runs.proofs.Worlds.{answered, showing, writing, undoing}
+use Rattle.text.specs.Lines.{oneLine, stepLine}
+use Rattle.text.specs.Paint.{paintedLine}
+use Rattle.text.proofs.Painting.{painted-same}
 use Rattle.calls.specs.declared.Machine.{Machine}
-use Rattle.calls.specs.declared.Order.{Order}
-use Rattle.calls.specs.Orders.{Running, runningOf, Act, calls, unknown, actOf, stateBy, lineBy, Does, Serves}
+use Rattle.calls.specs.Orders.{Running, runningOf, Act, calls, shown, stateBy, calledLine, shownLine, lineBy, Does}
 use Rattle.calls.specs.Parts.{Tells}
 
 -- a world, with bytes that wait
@@ -69,41 +76,24 @@ module _ {r : Machine} {before after : List ℕ} {at : ℕ} where
         tells ram store' others places t
         (ap (waitingBeside bytes) (undoing (worldOf c ram store others places) Picture k)) (rw (k .call .answer))
 
--- what the letter k asks for is done
-pub by-letter :
-    {s s' : Running} {o : Order} {before after : List ℕ} {at at' : ℕ} (k : ℕ) → o .op ≡ k →
-    Does s (actOf k (o .address) (o .value)) s' before at after at' → Serves s o s' before at after at'
-by-letter k e d = record { does = rw e d }
+-- the line's call, into 640 bytes
+module _ {c : Chip} {ram store line line' : List ℕ} {a : Accesses} {told : Stepped} (k : Shows c ram store a line line' told) (size : length line ≡ lineBytes) (song picture : List ℕ) where
+  abbrev w : World
+  w = worldOf c ram store song picture
 
--- a number that no letter has
-abbrev pub Other : ℕ → Type 0
-Other n = (((((((((((((((((Unit {0} × (n ≢ 66)) × (n ≢ 68)) × (n ≢ 71)) × (n ≢ 87)) × (n ≢ 119)) × (n ≢ 82)) × (n ≢ 114)) × (n ≢ 85)) × (n ≢ 117)) × (n ≢ 69)) × (n ≢ 65)) × (n ≢ 76)) × (n ≢ 80)) × (n ≢ 70)) × (n ≢ 77)) × (n ≢ 84)) × (n ≢ 83)) × (n ≢ 90)
+  answer : told .answer ≡ answerTo w (shown a)
+  answer = rw size at (k .steps .answer)
 
--- asks for nothing that is known
-unknown-letter : (op a b : ℕ) → Other op → actOf op a b ≡ unknown
-unknown-letter op a b h =
-    simp (
-      ne-eqb _ _ (h .1),
-      ne-eqb _ _ (h .0 .1),
-      ne-eqb _ _ (h .0 .0 .1),
-      ne-eqb _ _ (h .0 .0 .0 .1),
-      ne-eqb _ _ (h .0 .0 .0 .0 .1),
-      ne-eqb _ _ (h .0 .0 .0 .0 .0 .1),
-      ne-eqb _ _ (h .0 .0 .0 .0 .0 .0 .1),
-      ne-eqb _ _ (h .0 .0 .0 .0 .0 .0 .0 .1),
-      ne-eqb _ _ (h .0 .0 .0 .0 .0 .0 .0 .0 .1),
-      ne-eqb _ _ (h .0 .0 .0 .0 .0 .0 .0 .0 .0 .1),
-      ne-eqb _ _ (h .0 .0 .0 .0 .0 .0 .0 .0 .0 .0 .1),
-      ne-eqb _ _ (h .0 .0 .0 .0 .0 .0 .0 .0 .0 .0 .0 .1),
-      ne-eqb _ _ (h .0 .0 .0 .0 .0 .0 .0 .0 .0 .0 .0 .0 .1),
-      ne-eqb _ _ (h .0 .0 .0 .0 .0 .0 .0 .0 .0 .0 .0 .0 .0 .1),
-      ne-eqb _ _ (h .0 .0 .0 .0 .0 .0 .0 .0 .0 .0 .0 .0 .0 .0 .1),
-      ne-eqb _ _ (h .0 .0 .0 .0 .0 .0 .0 .0 .0 .0 .0 .0 .0 .0 .0 .1),
-      ne-eqb _ _ (h .0 .0 .0 .0 .0 .0 .0 .0 .0 .0 .0 .0 .0 .0 .0 .0 .1),
-      ne-eqb _ _ (h .0 .0 .0 .0 .0 .0 .0 .0 .0 .0 .0 .0 .0 .0 .0 .0 .0 .1),
-    )
+  -- the world that it leaves
+  pub shown-world : withChip w (told .chip) ≡ worldAfter w (shown a)
+  shown-world = rw size at (showing w k)
 
-pub by-none :
-    {s s' : Running} {o : Order} {before after : List ℕ} {at at' : ℕ} → Other (o .op) →
-    Does s unknown s' before at after at' → Serves s o s' before at after at'
-by-none {o = o} h d = record { does = rw (unknown-letter (o .op) (o .address) (o .value) h) d }
+  -- its line, told and shown
+  pub stepped-line : stepLine (told .answer) (told .report) ≡ calledLine w (shown a)
+  stepped-line = rw (k .steps .report, answer, size)
+
+  pub painted-line : paintedLine (told .answer) (λ x. getD line' x 0) (told .report) ≡ shownLine w a
+  painted-line =
+      painted-same (told .answer) (λ x. getD line' x 0) (entryAt c ram store) (told .report) (soundReport ram a (c .sound)) (k .draws .drawn)
+      (λ z. rw (k .steps .report, eq-eqb _ _ (sym (k .steps .answer) ∙ z))) ∙
+      rw answer

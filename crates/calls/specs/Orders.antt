@@ -1,25 +1,25 @@
--- The runner's orders: what each asks for, the state that it leaves, and its line of output.
+-- What the runner's orders can ask for: the state that each leaves, and its line of output.
 use mathlib.Core.Path.{_≡_}
 use mathlib.Core.List.{List, []}
 use Prim.Native.Nat.{ℕ, _+_, _*_, _/_, _%_, _≤_}
-use lib.Dec.{eqb, ltb}
+use lib.Dec.{ltb}
 use lib.ListN.{length, getD, set, replicate}
 use Rattle.common.specs.Answers.{done, served}
 use Rattle.common.specs.Choice.{if}
-use Rattle.editors.specs.declared.Editor.the-variants.{Song, Picture}
+use Rattle.common.specs.Sizes.{lineBytes}
 use Rattle.editors.specs.declared.Owners.{Owners}
 use Rattle.sound.specs.declared.Accesses.{Accesses}
-use Rattle.sound.specs.Line.{accessBy}
+use Rattle.sound.specs.Line.{accessBy, soundReport}
 use Rattle.chip.specs.Reset.{resetChip}
+use Rattle.draw.specs.Drawing.{entryAt}
 use Rattle.runs.specs.World.{World, worldOf, withChip}
-use Rattle.runs.specs.Call.{Call, bc, bd, gate, read, write, undo, ack, line, start, Told, nothing, byte, vector, report, outcome, answerTo, worldAfter}
+use Rattle.runs.specs.Call.{Call, line, start, Told, nothing, byte, vector, report, outcome, answerTo, worldAfter}
 use Rattle.forecast.specs.Rule.{answerOf, linesForecast, cyclesForecast, mostForecast, listOf}
 use Rattle.text.specs.Text.{Appends}
 use Rattle.text.specs.Lines.{oneLine, twoLine, stepLine, forecastLine, badLine}
 use Rattle.text.specs.Paint.{paintedLine}
 use Rattle.text.specs.Dump.{exportLine}
 use Rattle.calls.specs.declared.Machine.{Machine}
-use Rattle.calls.specs.declared.Order.{Order}
 
 -- what a scene hands on from one order to the next: the world, and 16 bytes that wait for a start
 pub record Running : Type 0 where
@@ -47,7 +47,7 @@ ownersIn waiting =
     record { palette = b 0 + b 1 * 256 + b 2 * 65536 + b 3 * 16777216; sprites = b 4 + b 5 * 256; channels = b 6 }
 
 -- a call; a byte of RAM changed by the host; a byte that is to wait at a place; a start with what waits; a reset; the registers exported;
--- the current line drawn; the list at an address forecast with a prescale; or none of these
+-- a line that is drawn and stepped, and shown; the list at an address forecast with a prescale; or none of these
 pub data Act : Type 0 where
   calls : Call → Act
   pokes : ℕ → ℕ → Act
@@ -55,7 +55,7 @@ pub data Act : Type 0 where
   starts : Act
   resets : Act
   exports : Act
-  draws : Act
+  shows : Accesses → Act
   foretells : ℕ → ℕ → Act
   unknown : Act
 
@@ -63,29 +63,9 @@ pub data Act : Type 0 where
 abbrev pub accessesIn : ℕ → Accesses
 accessesIn v = record { first = accessBy (v % 4); second = accessBy (v / 4 % 4); third = accessBy (v / 16 % 4) }
 
--- by the letter, with the address and the value: B, D and G write to BCxx, the 6845's data port and 7Fxx; W writes to the page, R reads
--- it, U takes a write back, for the song editor, and w, r, u for the picture editor; A acknowledges, L steps a line; E exports, P draws,
--- F forecasts, M changes a byte of RAM, T has a byte wait, S starts, Z resets
-abbrev pub actOf : ℕ → ℕ → ℕ → Act
-actOf op a value =
-    if (eqb op 66) (calls (bc value))
-    (if (eqb op 68) (calls (bd value))
-    (if (eqb op 71) (calls (gate value))
-    (if (eqb op 87) (calls (write Song a value))
-    (if (eqb op 119) (calls (write Picture a value))
-    (if (eqb op 82) (calls (read Song a value))
-    (if (eqb op 114) (calls (read Picture a value))
-    (if (eqb op 85) (calls (undo Song))
-    (if (eqb op 117) (calls (undo Picture))
-    (if (eqb op 69) exports
-    (if (eqb op 65) (calls ack)
-    (if (eqb op 76) (calls (line (accessesIn value)))
-    (if (eqb op 80) draws
-    (if (eqb op 70) (foretells a value)
-    (if (eqb op 77) (pokes a value)
-    (if (eqb op 84) (waits a value)
-    (if (eqb op 83) starts
-    (if (eqb op 90) resets unknown)))))))))))))))))
+-- the line's call, into a line of 640 bytes
+abbrev pub shown : Accesses → Call
+shown a = line a lineBytes
 
 -- the state after a call
 abbrev pub called : Running → Call → Running
@@ -104,7 +84,7 @@ stateBy s (waits a b) = record { world = s .world; waiting = waitingWith (s .wai
 stateBy s starts = called s (start (ownersIn (s .waiting)))
 stateBy s resets = record { world = withChip (s .world) resetChip; waiting = noneWaiting }
 stateBy s exports = s
-stateBy s draws = s
+stateBy s (shows a) = called s (shown a)
 stateBy s (foretells a n) = s
 stateBy s unknown = s
 
@@ -125,6 +105,11 @@ foretoldLine ram from prescale =
 abbrev pub calledLine : World → Call → List ℕ
 calledLine w c = toldLine (answerTo w c) (outcome w c .told)
 
+-- of a line that is shown: its entries are those of the chip before it
+abbrev pub shownLine : World → Accesses → List ℕ
+shownLine w a =
+    paintedLine (answerTo w (shown a)) (entryAt (w .chip) (w .lent .ram) (w .lent .store)) (soundReport (w .lent .ram) a (w .chip .sound))
+
 -- the line of any of them
 abbrev pub lineBy : Running → Act → List ℕ
 lineBy s (calls c) = calledLine (s .world) c
@@ -133,7 +118,7 @@ lineBy s (waits a b) = oneLine done
 lineBy s starts = calledLine (s .world) (start (ownersIn (s .waiting)))
 lineBy s resets = oneLine done
 lineBy s exports = exportLine (s .world .chip)
-lineBy s draws = paintedLine (s .world .chip) (s .world .lent .ram) (s .world .lent .store)
+lineBy s (shows a) = shownLine (s .world) a
 lineBy s (foretells a n) = foretoldLine (s .world .lent .ram) a n
 lineBy s unknown = badLine
 
@@ -142,7 +127,3 @@ pub record Does (s : Running) (a : Act) (s' : Running) (before : List ℕ) (at :
   pub state : s' ≡ stateBy s a
   pub puts : Appends before at (lineBy s a) after at'
   pub bound : at' ≤ at + 1024
-
--- what serving an order promises
-pub record Serves (s : Running) (o : Order) (s' : Running) (before : List ℕ) (at : ℕ) (after : List ℕ) (at' : ℕ) : Type 0 where
-  pub does : Does s (actOf (o .op) (o .address) (o .value)) s' before at after at'

@@ -1,4 +1,4 @@
-// One order of a scene: what it asks for is done, and a line answers it.
+// What an order of a scene can ask for: each is done, and a line answers it.
 use chip::Answered;
 use chip::Chip;
 use common::answer::DONE;
@@ -15,8 +15,8 @@ ghost use lib.ListN.{length};
 ghost use Rattle.common.specs.Answers.{done};
 ghost use Rattle.editors.specs.Table.{pick};
 ghost use Rattle.text.specs.Lines.{oneLine};
-ghost use Rattle.runs.specs.Call.{bc, bd, gate, read, write, undo, ack, line};
-ghost use Rattle.calls.specs.Orders.{runningOf, calls, pokes, waits, starts, resets, exports, draws, foretells, unknown, accessesIn, ownersIn, waitingWith, Does, Serves};
+ghost use Rattle.runs.specs.Call.{bc, bd, gate, read, write, undo, ack};
+ghost use Rattle.calls.specs.Orders.{runningOf, calls, pokes, waits, starts, resets, exports, shows, foretells, unknown, accessesIn, shown, ownersIn, waitingWith, Does};
 ghost use Rattle.calls.specs.Parts.{Tells};
 
 // The chip, the bytes that wait for a start, and how many bytes of output wait.
@@ -24,13 +24,6 @@ pub struct Machine {
     pub chip: Chip,
     pub waiting: [u8; 16],
     pub at: usize,
-}
-
-// An order: a letter for what is to be done, an address and a byte.
-pub struct Order {
-    pub op: u8,
-    pub address: u16,
-    pub value: u8,
 }
 
 // A call that answers one number.
@@ -54,7 +47,7 @@ fn done(mut m: Machine, out: &mut [u8]) -> Machine
 }
 
 // A byte to BCxx.
-fn selected(m: Machine, out: &mut [u8], value: u8) -> Machine
+pub fn selected(m: Machine, out: &mut [u8], value: u8) -> Machine
     requires { ⌜ m .at + 1024 ≤ length (now out) ⌝ }
     ensures { λ r. ⌜ ((ram store song picture : List ℕ) → Does (runningOf m ram store song picture) (calls (bc value)) (runningOf r ram store song picture) (now (out .entry)) (m .at) (now (out .exit)) (r .at)) ⌝ }
 {
@@ -63,7 +56,7 @@ fn selected(m: Machine, out: &mut [u8], value: u8) -> Machine
 }
 
 // A byte to the 6845's data port.
-fn data_written(m: Machine, out: &mut [u8], value: u8) -> Machine
+pub fn data_written(m: Machine, out: &mut [u8], value: u8) -> Machine
     requires { ⌜ m .at + 1024 ≤ length (now out) ⌝ }
     ensures { λ r. ⌜ ((ram store song picture : List ℕ) → Does (runningOf m ram store song picture) (calls (bd value)) (runningOf r ram store song picture) (now (out .entry)) (m .at) (now (out .exit)) (r .at)) ⌝ }
 {
@@ -72,7 +65,7 @@ fn data_written(m: Machine, out: &mut [u8], value: u8) -> Machine
 }
 
 // A byte to 7Fxx.
-fn gate_written(m: Machine, out: &mut [u8], value: u8) -> Machine
+pub fn gate_written(m: Machine, out: &mut [u8], value: u8) -> Machine
     requires { ⌜ m .at + 1024 ≤ length (now out) ⌝ }
     ensures { λ r. ⌜ ((ram store song picture : List ℕ) → Does (runningOf m ram store song picture) (calls (gate value)) (runningOf r ram store song picture) (now (out .entry)) (m .at) (now (out .exit)) (r .at)) ⌝ }
 {
@@ -81,7 +74,7 @@ fn gate_written(m: Machine, out: &mut [u8], value: u8) -> Machine
 }
 
 // A page write of an editor, with its places lent.
-fn page_written(
+pub fn page_written(
     m: Machine,
     editor: Editor,
     store: &mut [u8],
@@ -98,7 +91,7 @@ fn page_written(
 }
 
 // An editor's last page write taken back, with its places lent.
-fn undone(
+pub fn undone(
     m: Machine,
     editor: Editor,
     store: &mut [u8],
@@ -113,7 +106,7 @@ fn undone(
 }
 
 // The registers exported.
-fn exported(mut m: Machine, out: &mut [u8]) -> Machine
+pub fn exported(mut m: Machine, out: &mut [u8]) -> Machine
     requires { ⌜ m .at + 1024 ≤ length (now out) ⌝ }
     ensures { λ r. ⌜ ((ram store song picture : List ℕ) → Does (runningOf m ram store song picture) exports (runningOf r ram store song picture) (now (out .entry)) (m .at) (now (out .exit)) (r .at)) ⌝ }
 {
@@ -122,7 +115,7 @@ fn exported(mut m: Machine, out: &mut [u8]) -> Machine
 }
 
 // A page read of an editor.
-fn page_shown(
+pub fn page_shown(
     mut m: Machine,
     editor: Editor,
     store: &[u8],
@@ -139,7 +132,7 @@ fn page_shown(
 }
 
 // An acknowledge.
-fn acknowledged(mut m: Machine, out: &mut [u8]) -> Machine
+pub fn acknowledged(mut m: Machine, out: &mut [u8]) -> Machine
     requires { ⌜ m .at + 1024 ≤ length (now out) ⌝ }
     ensures { λ r. ⌜ ((ram store song picture : List ℕ) → Does (runningOf m ram store song picture) (calls ack) (runningOf r ram store song picture) (now (out .entry)) (m .at) (now (out .exit)) (r .at)) ⌝ }
 {
@@ -161,30 +154,36 @@ fn accesses_in(value: u8) -> Accesses
     }
 }
 
-// A line step.
-fn stepped(mut m: Machine, ram: &[u8], out: &mut [u8], value: u8) -> Machine
+// A line that is drawn and stepped.
+pub fn stepped(mut m: Machine, ram: &[u8], store: &[u8], out: &mut [u8], value: u8) -> Machine
     requires { ⌜ m .at + 1024 ≤ length (now out) ⌝ }
-    ensures { λ r. ⌜ ((store song picture : List ℕ) → Does (runningOf m (now (ram .entry)) store song picture) (calls (line (accessesIn value))) (runningOf r (now (ram .entry)) store song picture) (now (out .entry)) (m .at) (now (out .exit)) (r .at)) ⌝ }
+    ensures { λ r. ⌜ ((song picture : List ℕ) → Does (runningOf m (now (ram .entry)) (now (store .entry)) song picture) (calls (shown (accessesIn value))) (runningOf r (now (ram .entry)) (now (store .entry)) song picture) (now (out .entry)) (m .at) (now (out .exit)) (r .at)) ⌝ }
 {
-    let told = chip::line::step(m.chip, ram, accesses_in(value));
+    let mut line = [0u8; 640];
+    let told = line::line(m.chip, ram, store, &mut line, accesses_in(value));
     let report = told.report;
-    let chip = told.chip;
-    m.chip = chip;
+    let next = told.chip;
+    m.chip = next;
     m.at = lines::stepped(out, m.at, told.answer, report);
     m
 }
 
-// The current line drawn.
-fn painted(mut m: Machine, ram: &[u8], store: &[u8], out: &mut [u8]) -> Machine
+// The same, and the line is shown.
+pub fn painted(mut m: Machine, ram: &[u8], store: &[u8], out: &mut [u8], value: u8) -> Machine
     requires { ⌜ m .at + 1024 ≤ length (now out) ⌝ }
-    ensures { λ r. ⌜ ((song picture : List ℕ) → Does (runningOf m (now (ram .entry)) (now (store .entry)) song picture) draws (runningOf r (now (ram .entry)) (now (store .entry)) song picture) (now (out .entry)) (m .at) (now (out .exit)) (r .at)) ⌝ }
+    ensures { λ r. ⌜ ((song picture : List ℕ) → Does (runningOf m (now (ram .entry)) (now (store .entry)) song picture) (shows (accessesIn value)) (runningOf r (now (ram .entry)) (now (store .entry)) song picture) (now (out .entry)) (m .at) (now (out .exit)) (r .at)) ⌝ }
 {
-    m.at = paint::painted(m.chip, ram, store, out, m.at);
+    let mut line = [0u8; 640];
+    let shown = line::line(m.chip, ram, store, &mut line, accesses_in(value));
+    let report = shown.report;
+    let next = shown.chip;
+    m.chip = next;
+    m.at = paint::painted(out, m.at, shown.answer, &line, report);
     m
 }
 
 // A forecast.
-fn foretold(mut m: Machine, ram: &[u8], out: &mut [u8], start: u16, prescale: u8) -> Machine
+pub fn foretold(mut m: Machine, ram: &[u8], out: &mut [u8], start: u16, prescale: u8) -> Machine
     requires { ⌜ m .at + 1024 ≤ length (now out) ⌝ }
     ensures { λ r. ⌜ ((store song picture : List ℕ) → Does (runningOf m (now (ram .entry)) store song picture) (foretells start prescale) (runningOf r (now (ram .entry)) store song picture) (now (out .entry)) (m .at) (now (out .exit)) (r .at)) ⌝ }
 {
@@ -195,7 +194,7 @@ fn foretold(mut m: Machine, ram: &[u8], out: &mut [u8], start: u16, prescale: u8
 }
 
 // A byte of RAM changed.
-fn poked(m: Machine, ram: &mut [u8], out: &mut [u8], address: u16, value: u8) -> Machine
+pub fn poked(m: Machine, ram: &mut [u8], out: &mut [u8], address: u16, value: u8) -> Machine
     requires { ⌜ (m .at + 1024 ≤ length (now out)) × (length (now ram) ≡ 65536) ⌝ }
     ensures { λ r. ⌜ ((store song picture : List ℕ) → Does (runningOf m (now (ram .entry)) store song picture) (pokes address value) (runningOf r (now (ram .exit)) store song picture) (now (out .entry)) (m .at) (now (out .exit)) (r .at)) ⌝ }
 {
@@ -215,7 +214,7 @@ fn waiting_with(mut waiting: [u8; 16], address: u16, value: u8) -> [u8; 16]
 }
 
 // A byte that waits for a start.
-fn kept_waiting(mut m: Machine, out: &mut [u8], address: u16, value: u8) -> Machine
+pub fn kept_waiting(mut m: Machine, out: &mut [u8], address: u16, value: u8) -> Machine
     requires { ⌜ m .at + 1024 ≤ length (now out) ⌝ }
     ensures { λ r. ⌜ ((ram store song picture : List ℕ) → Does (runningOf m ram store song picture) (waits address value) (runningOf r ram store song picture) (now (out .entry)) (m .at) (now (out .exit)) (r .at)) ⌝ }
 {
@@ -243,7 +242,7 @@ fn owners_in(waiting: &[u8]) -> Owners
 }
 
 // A start with the table that waits.
-fn started(m: Machine, out: &mut [u8]) -> Machine
+pub fn started(m: Machine, out: &mut [u8]) -> Machine
     requires { ⌜ m .at + 1024 ≤ length (now out) ⌝ }
     ensures { λ r. ⌜ ((ram store song picture : List ℕ) → Does (runningOf m ram store song picture) starts (runningOf r ram store song picture) (now (out .entry)) (m .at) (now (out .exit)) (r .at)) ⌝ }
 {
@@ -253,7 +252,7 @@ fn started(m: Machine, out: &mut [u8]) -> Machine
 }
 
 // A reset, which clears the waiting bytes.
-fn reset(mut m: Machine, out: &mut [u8]) -> Machine
+pub fn reset(mut m: Machine, out: &mut [u8]) -> Machine
     requires { ⌜ m .at + 1024 ≤ length (now out) ⌝ }
     ensures { λ r. ⌜ ((ram store song picture : List ℕ) → Does (runningOf m ram store song picture) resets (runningOf r ram store song picture) (now (out .entry)) (m .at) (now (out .exit)) (r .at)) ⌝ }
 {
@@ -263,49 +262,10 @@ fn reset(mut m: Machine, out: &mut [u8]) -> Machine
 }
 
 // A letter that names nothing.
-fn not_known(mut m: Machine, out: &mut [u8]) -> Machine
+pub fn not_known(mut m: Machine, out: &mut [u8]) -> Machine
     requires { ⌜ m .at + 1024 ≤ length (now out) ⌝ }
     ensures { λ r. ⌜ ((ram store song picture : List ℕ) → Does (runningOf m ram store song picture) unknown (runningOf r ram store song picture) (now (out .entry)) (m .at) (now (out .exit)) (r .at)) ⌝ }
 {
     m.at = lines::bad(out, m.at);
     m
-}
-
-// What an order asks for.
-pub fn serve(
-    m: Machine,
-    ram: &mut [u8],
-    store: &mut [u8],
-    song: &mut [u32; 256],
-    picture: &mut [u32; 256],
-    out: &mut [u8],
-    o: Order,
-) -> Machine
-    requires { ⌜ (m .at + 1024 ≤ length (now out)) × (length (now ram) ≡ 65536) ⌝ }
-    ensures { λ r. ⌜ Serves (runningOf m (now (ram .entry)) (now (store .entry)) (now (song .entry)) (now (picture .entry))) o (runningOf r (now (ram .exit)) (now (store .exit)) (now (song .exit)) (now (picture .exit))) (now (out .entry)) (m .at) (now (out .exit)) (r .at) ⌝ }
-{
-    let op = o.op;
-    let address = o.address;
-    let value = o.value;
-    match op {
-        b'B' => selected(m, out, value),
-        b'D' => data_written(m, out, value),
-        b'G' => gate_written(m, out, value),
-        b'W' => page_written(m, Editor::Song, store, song, out, address, value),
-        b'w' => page_written(m, Editor::Picture, store, picture, out, address, value),
-        b'R' => page_shown(m, Editor::Song, store, out, address, value),
-        b'r' => page_shown(m, Editor::Picture, store, out, address, value),
-        b'U' => undone(m, Editor::Song, store, song, out),
-        b'u' => undone(m, Editor::Picture, store, picture, out),
-        b'E' => exported(m, out),
-        b'A' => acknowledged(m, out),
-        b'L' => stepped(m, ram, out, value),
-        b'P' => painted(m, ram, store, out),
-        b'F' => foretold(m, ram, out, address, value),
-        b'M' => poked(m, ram, out, address, value),
-        b'T' => kept_waiting(m, out, address, value),
-        b'S' => started(m, out),
-        b'Z' => reset(m, out),
-        _ => not_known(m, out),
-    }
 }

@@ -40,15 +40,25 @@ stepped ram c = countersStepped (withSound c (soundAfter ram (c .sound)))
 
 -- the parts that a line moves, by themselves
 pub record Moves (s : Sound) (k : Crtc) (v : Video) (ram : List ℕ) (a : Accesses) (r : Moved) : Type 0 where
-  pub answer : r .answer ≡ stepAnswer ram
-  pub sound : r .sound ≡ served (stepAnswer ram) (soundAfter ram s) s
-  pub counters : r .counters ≡ served (stepAnswer ram) (lineOf (k .registers) v (k .counters) .counters) (k .counters)
-  pub raster : r .raster ≡ served (stepAnswer ram) (lineOf (k .registers) v (k .counters) .raster) false
-  pub report : r .report ≡ served (stepAnswer ram) (soundReport ram a s) idleReport
+  pub sound : r .sound ≡ soundAfter ram s
+  pub counters : r .counters ≡ lineOf (k .registers) v (k .counters) .counters
+  pub raster : r .raster ≡ lineOf (k .registers) v (k .counters) .raster
+  pub report : r .report ≡ soundReport ram a s
 
--- what the line step promises, whatever the processor does; no line costs over 34 cycles
-pub record Steps (c : Chip) (ram : List ℕ) (a : Accesses) (r : Stepped) : Type 0 where
-  pub answer : r .answer ≡ stepAnswer ram
-  pub chip : r .chip ≡ served (stepAnswer ram) (stepped ram c) c
-  pub report : r .report ≡ served (stepAnswer ram) (soundReport ram a (c .sound)) idleReport
+-- in a call that answers this number: with a refusal nothing moves
+pub record MovesBy (number : ℕ) (s : Sound) (k : Crtc) (v : Video) (ram : List ℕ) (a : Accesses) (r : Moved) : Type 0 where
+  pub sound : r .sound ≡ served number (soundAfter ram s) s
+  pub counters : r .counters ≡ served number (lineOf (k .registers) v (k .counters) .counters) (k .counters)
+  pub raster : r .raster ≡ served number (lineOf (k .registers) v (k .counters) .raster) false
+  pub report : r .report ≡ served number (soundReport ram a s) idleReport
+
+-- a line of the chip in a call that answers this number, whatever the processor does; no line costs over 34 cycles
+pub record StepsBy (number : ℕ) (c : Chip) (ram : List ℕ) (a : Accesses) (r : Stepped) : Type 0 where
+  pub answer : r .answer ≡ number
+  pub chip : r .chip ≡ served number (stepped ram c) c
+  pub report : r .report ≡ served number (soundReport ram a (c .sound)) idleReport
   pub bound : r .report .cycles ≤ 34
+
+-- what the line step promises
+abbrev pub Steps : Chip → List ℕ → Accesses → Stepped → Type 0
+Steps c ram a r = StepsBy (stepAnswer ram) c ram a r

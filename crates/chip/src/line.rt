@@ -13,14 +13,13 @@ use sound::Entry;
 use sound::Report;
 use sound::Sound;
 ghost use mathlib.Core.Path.{_≡_};
-ghost use Rattle.chip.specs.Step.{idleReport, Moves, Steps};
+ghost use Rattle.chip.specs.Step.{stepAnswer, idleReport, Moves, MovesBy, StepsBy, Steps};
 
-// What a line moves: the sound state, the counters, and whether it raises the raster interrupt; with its answer number and report.
+// What a line moves: the sound state, the counters, and whether it raises the raster interrupt; with its report.
 pub struct Moved {
     pub sound: Sound,
     pub counters: Counters,
     pub raster: bool,
-    pub answer: u8,
     pub report: Report,
 }
 
@@ -32,21 +31,22 @@ fn idle_report() -> Report
     Report { cycles: 0, entries }
 }
 
+// The answer of a line step: RAM of another length is refused.
+fn step_answer(ram: &[u8]) -> u8
+    ensures { λ r. ⌜ r ≡ stepAnswer (now (ram .entry)) ⌝ }
+{
+    if ram.len() != RAM {
+        return WRONG_LENGTH;
+    }
+    DONE
+}
+
 // One line of the parts that it moves: sound, raster compare, split compare, counters. The processor's accesses to the 8255 cost
 // cycles and change nothing else.
 pub fn advance(sound: Sound, crtc: Crtc, video: Video, ram: &[u8], accesses: Accesses) -> Moved
     ensures { λ r. ⌜ Moves sound crtc video (now (ram .entry)) accesses r ⌝ }
 {
     let before = crtc.counters;
-    if ram.len() != RAM {
-        return Moved {
-            sound,
-            counters: before,
-            raster: false,
-            answer: WRONG_LENGTH,
-            report: idle_report(),
-        };
-    }
     let line = before.line(crtc.registers, video);
     let counters = line.counters;
     let played = sound::sound_line(sound, ram, accesses);
@@ -56,16 +56,38 @@ pub fn advance(sound: Sound, crtc: Crtc, video: Video, ram: &[u8], accesses: Acc
         sound: next,
         counters,
         raster: line.raster,
-        answer: DONE,
         report,
     }
 }
 
-// One line of the chip.
-pub fn step(mut chip: Chip, ram: &[u8], accesses: Accesses) -> Stepped
-    ensures { λ r. ⌜ Steps chip (now (ram .entry)) accesses r ⌝ }
+// The same in a call that answers this number: with a refusal nothing moves.
+fn advance_by(
+    sound: Sound,
+    crtc: Crtc,
+    video: Video,
+    ram: &[u8],
+    accesses: Accesses,
+    answer: u8,
+) -> Moved
+    ensures { λ r. ⌜ MovesBy answer sound crtc video (now (ram .entry)) accesses r ⌝ }
 {
-    let line = advance(chip.sound, chip.crtc, chip.video, ram, accesses);
+    if answer == DONE {
+        return advance(sound, crtc, video, ram, accesses);
+    }
+    let counters = crtc.counters;
+    Moved {
+        sound,
+        counters,
+        raster: false,
+        report: idle_report(),
+    }
+}
+
+// One line of the chip, in a call that answers this number.
+pub fn step_by(mut chip: Chip, ram: &[u8], accesses: Accesses, answer: u8) -> Stepped
+    ensures { λ r. ⌜ StepsBy answer chip (now (ram .entry)) accesses r ⌝ }
+{
+    let line = advance_by(chip.sound, chip.crtc, chip.video, ram, accesses, answer);
     let sound = line.sound;
     chip.sound = sound;
     let counters = line.counters;
@@ -77,7 +99,14 @@ pub fn step(mut chip: Chip, ram: &[u8], accesses: Accesses) -> Stepped
     let report = line.report;
     Stepped {
         chip,
-        answer: line.answer,
+        answer,
         report,
     }
+}
+
+// One line of the chip.
+pub fn step(chip: Chip, ram: &[u8], accesses: Accesses) -> Stepped
+    ensures { λ r. ⌜ Steps chip (now (ram .entry)) accesses r ⌝ }
+{
+    step_by(chip, ram, accesses, step_answer(ram))
 }

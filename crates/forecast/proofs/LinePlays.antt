@@ -37,7 +37,7 @@ word-stop w = by-kind (kindOf w)
     by-kind Control = refl
     by-kind Nothing = refl
 
-word-cycles : (a : Access) (w : ℕ) → cyclesOf a w ≡ ownCycles a (Executed (kindOf w) (low12 w))
+pub word-cycles : (a : Access) (w : ℕ) → cyclesOf a w ≡ ownCycles a (Executed (kindOf w) (low12 w))
 unfolding cyclesOf
 word-cycles a w = by-kind (kindOf w)
   where

@@ -58,7 +58,11 @@ unfolding started
 by-view n h w c (feeds b l) = aside-effect n w c (l .channel n)
 by-view n h w c (writes ed a b e) = record { keeps = λ z. edit-keeps n h e; alone = edit-alone n h e }
 by-view n h w c (undoes ed e) = record { keeps = λ z. edit-keeps n h e; alone = edit-alone n h e }
-by-view n h w c (steps a) = record { keeps = λ e. absurd (let z : _≡_ {A = ℕ} 0 1 = cc in omega arith); alone = λ s. absurd s }
+by-view n h w c (steps a l) =
+    record {
+      keeps = λ e. absurd (let f = rw (l .sorts) at e in let z : _≡_ {A = ℕ} 0 1 = cc in omega arith);
+      alone = λ s. absurd (rw (l .sorts) at s);
+    }
 by-view n h w c (starts o) = aside-effect n w c (aside-self (channel (w .chip) n))
 by-view n h w c (lends l) = aside-effect n w c (aside-self (channel (w .chip) n))
 by-view n h w c (plain s q l) = aside-effect n w c (l .channel n)

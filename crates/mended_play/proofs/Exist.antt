@@ -12,13 +12,13 @@ use Rattle.sound.specs.Channels.{wordAt}
 use Rattle.editors.specs.declared.Editor.the-variants.{Song, Picture}
 use Rattle.mend.specs.Rule.{mendedWords}
 use Rattle.runs.specs.World.{World, worldOf}
-use Rattle.runs.specs.Call.{line, servedWorld}
+use Rattle.runs.specs.Call.{servedWorld}
 use Rattle.runs.specs.Run.{Made, Run, Each, madeOver, worldOver}
 use Rattle.runs.proofs.Calls.{AllPlaces}
 use Rattle.runs.proofs.Runs.{run-possible}
 use Rattle.forecast.specs.Rule.{Has}
 use Rattle.forecast.specs.Demand.{channel}
-use Rattle.forecast.proofs.Exist.{full-served, no-lend, ready-chip}
+use Rattle.forecast.proofs.Exist.{lineOf, Shown, shown-served, still-shown, no-lend, ready-chip}
 use Rattle.forecast.specs.Played.{playedIn}
 use Rattle.mended_play.specs.Sameness.{Fresh, Fits, Lends}
 use Rattle.mended_play.proofs.Words.{mended-length}
@@ -113,12 +113,12 @@ ram-with start ws fits =
 -- ---- runs of line steps alone, whatever the processor does on each, on RAM that has the words
 module _ (n start : ℕ) (words : List ℕ) where
   all-lend :
-      (accesses : List Accesses) (w : World) → length (w .lent .ram) ≡ 65536 → Has (w .lent .ram) start words →
-      Each (Lends n start words) (madeOver w (map line accesses)) × (length (playedIn n (madeOver w (map line accesses))) ≡ length accesses)
-  all-lend [] w long has = (tt, refl)
-  all-lend (a ∷ as') w long has =
-      let z = full-served (w .lent .ram) long in
-      let rest = all-lend as' (servedWorld w (line a)) long has in (
+      (accesses : List Accesses) (w : World) → Shown w → Has (w .lent .ram) start words →
+      Each (Lends n start words) (madeOver w (map lineOf accesses)) × (length (playedIn n (madeOver w (map lineOf accesses))) ≡ length accesses)
+  all-lend [] w shown has = (tt, refl)
+  all-lend (a ∷ as') w shown has =
+      let z = shown-served w a shown in
+      let rest = all-lend as' (servedWorld w (lineOf a)) (still-shown w a shown) has in (
         (λ y. has, rw (eq-eqb _ _ z) (rest .0)),
         rw (eq-eqb _ _ z) (ap suc (rest .1)),
       )
@@ -131,13 +131,13 @@ module _ (n start : ℕ) (words : List ℕ) where
     pub lines : length (playedIn n log) ≡ length accesses
 
   pub run-on :
-      (accesses : List Accesses) (w : World) → AllPlaces w → length (w .lent .ram) ≡ 65536 → Has (w .lent .ram) start words → RunOn accesses w
-  run-on accesses w whole long has =
-      let all = all-lend accesses w long has in
+      (accesses : List Accesses) (w : World) → AllPlaces w → Shown w → Has (w .lent .ram) start words → RunOn accesses w
+  run-on accesses w whole shown has =
+      let all = all-lend accesses w shown has in
       record {
-        log = madeOver w (map line accesses);
-        last = worldOver w (map line accesses);
-        run = run-possible (map line accesses) w whole (no-lend accesses);
+        log = madeOver w (map lineOf accesses);
+        last = worldOver w (map lineOf accesses);
+        run = run-possible (map lineOf accesses) w whole (no-lend accesses);
         lends = all .0;
         lines = all .1;
       }
@@ -166,10 +166,13 @@ two-runs words start evens fits n h accesses others =
       mended = x;
       fresh = record { enabled = ready .enabled; address = ready .address ∙ omega (arith, evens); counter = ready .counter };
       same = refl;
-      old-run = run-on n start words accesses w (whole w refl refl) (ram .long) (ram .has);
-      mended-run = run-on n start (mendedWords words) others x (whole x refl refl) (other .long) (other .has);
+      old-run = run-on n start words accesses w (whole w refl refl) (shown w (ram .long) refl (chip .2)) (ram .has);
+      mended-run = run-on n start (mendedWords words) others x (whole x refl refl) (shown x (other .long) refl (chip .2)) (other .has);
     }
   where
     whole : (w : World) → w .lent .song ≡ zeros 256 → w .lent .picture ≡ zeros 256 → AllPlaces w
     whole w s p Song = rw s (zeros-length 256)
     whole w s p Picture = rw p (zeros-length 256)
+
+    shown : (w : World) → length (w .lent .ram) ≡ 65536 → w .lent .store ≡ zeros 4096 → w .chip .gate .mode ≡ 0 → Shown w
+    shown w r s m = record { ram = r; store = rw s (zeros-length 4096); mode = λ e. omega (arith, m, e) }

@@ -10,10 +10,10 @@ use Rattle.common.specs.Choice.{if}
 use Rattle.sound.specs.declared.Accesses.{Accesses}
 use Rattle.sound.specs.declared.Channel.{Channel}
 use Rattle.runs.specs.World.{World}
-use Rattle.runs.specs.Call.{Call, line, Reply}
+use Rattle.runs.specs.Call.{Call, Reply}
 use Rattle.runs.specs.Run.{Made, Makes, Run, ended, on, Each}
 use Rattle.runs.proofs.Calls.{refused-is}
-use Rattle.runs.proofs.Views.{LineView, step, other, line-view}
+use Rattle.runs.proofs.Views.{Lines, LineView, one, other, line-view}
 use Rattle.forecast.specs.Demand.{channel}
 use Rattle.forecast.proofs.Runs.{step-did, step-moves}
 use Rattle.forecast.specs.Played.{Line, lineOf, lineBy, playedIn}
@@ -29,32 +29,32 @@ pub record PlayOf (start : ℕ) (words : List ℕ) (c : Channel) (lines : List L
 module _ (n : ℕ) (h : n < 3) (start : ℕ) (words : List ℕ) where
   -- a line step
   line-seen :
-      {w v : World} {a : Accesses} {r : Reply} (ls : List Line) (k : Makes w (line a) r v) →
-      Lends n start words (record { before = w; asks = line a; reply = r; after = v }) →
+      {w v : World} {c : Call} {a : Accesses} {r : Reply} (ls : List Line) (k : Makes w c r v) → Lines w c a →
+      Lends n start words (record { before = w; asks = c; reply = r; after = v }) →
       PlayOf start words (channel (v .chip) n) ls →
-      PlayOf start words (channel (w .chip) n) (lineBy n (record { before = w; asks = line a; reply = r; after = v }) ls)
-  line-seen {w} {v} {a} {r} ls k ok rest = go (eqb (r .answer) done) refl
+      PlayOf start words (channel (w .chip) n) (lineBy n (record { before = w; asks = c; reply = r; after = v }) ls)
+  line-seen {w} {v} {c} {a} {r} ls k l ok rest = rw (l .sorts) (go (eqb (r .answer) done) refl)
     where
       e : Made
-      e = record { before = w; asks = line a; reply = r; after = v }
+      e = record { before = w; asks = c; reply = r; after = v }
 
       go : (t : Bool) → eqb (r .answer) done ≡ t → PlayOf start words (channel (w .chip) n) (if t (lineOf n e ∷ ls) ls)
       go true t =
           let z = eqb-true _ _ t in
           record {
             rams = w .lent .ram ∷ rest .rams;
-            have = (ok z, rest .have);
-            plays = rw (step-did n h k z, rest .plays, step-moves n h k z);
+            have = (rw (l .sorts) at (ok z), rest .have);
+            plays = rw (step-did n h k l z, rest .plays, step-moves n h k l z);
           }
       go false t = rw (← (refused-is k (eqb-false _ _ t))) rest
 
   -- any call
   one-seen :
-      {w v : World} {r : Reply} (ls : List Line) (c : Call) → LineView c → Makes w c r v →
+      {w v : World} {r : Reply} (ls : List Line) (c : Call) → LineView w c → Makes w c r v →
       Lends n start words (record { before = w; asks = c; reply = r; after = v }) →
       PlayOf start words (channel (v .chip) n) ls →
       PlayOf start words (channel (w .chip) n) (lineBy n (record { before = w; asks = c; reply = r; after = v }) ls)
-  one-seen ls c (step a) k ok rest = line-seen ls k ok rest
+  one-seen ls c (one a l) k ok rest = line-seen ls k l ok rest
   one-seen {w} {v} {r} ls c (other e) k ok rest = rw (e, ← stays) rest
     where
       go : (t : Bool) → eqb (r .answer) done ≡ t → channel (v .chip) n ≡ channel (w .chip) n

@@ -31,9 +31,9 @@ abbrev pub hasScreen : Table → Editor → Bool
 hasScreen t e = owns t e (Video Pri)
 
 -- channels, sprites, palette bytes and pixels agree where they are the editor's, and the screen registers if they are; lock and
--- mapping agree
+-- gate array agree
 pub record Blocks (t : Table) (e : Editor) (c : Chip) (l : List ℕ) (d : Chip) (m : List ℕ) : Type 0 where
-  pub mapped : c .gate .mapped ≡ d .gate .mapped
+  pub gate : c .gate ≡ d .gate
   pub lock : c .lock ≡ d .lock
   pub channels : Same (ownsChannel t e) offChannel (c .sound .channels) (d .sound .channels)
   pub sprites : Same (hasSprite t e) offSprite (c .sprites) (d .sprites)
@@ -45,7 +45,7 @@ module _ {t : Table} {e : Editor} where
   pub blocks-self : (c : Chip) (l : List ℕ) → Blocks t e c l c l
   blocks-self c l =
       record {
-        mapped = refl;
+        gate = refl;
         lock = refl;
         channels = same-self _;
         sprites = same-self _;
@@ -57,7 +57,7 @@ module _ {t : Table} {e : Editor} where
   pub blocks-back : {c d : Chip} {l m : List ℕ} → Blocks t e c l d m → Blocks t e d m c l
   blocks-back v =
       record {
-        mapped = sym (v .mapped);
+        gate = sym (v .gate);
         lock = sym (v .lock);
         channels = same-back (v .channels);
         sprites = same-back (v .sprites);
@@ -69,7 +69,7 @@ module _ {t : Table} {e : Editor} where
   pub blocks-on : {c d f : Chip} {l m k : List ℕ} → Blocks t e c l d m → Blocks t e d m f k → Blocks t e c l f k
   blocks-on v r =
       record {
-        mapped = v .mapped ∙ r .mapped;
+        gate = v .gate ∙ r .gate;
         lock = v .lock ∙ r .lock;
         channels = same-on (v .channels) (r .channels);
         sprites = same-on (v .sprites) (r .sprites);
@@ -80,12 +80,12 @@ module _ {t : Table} {e : Editor} where
 
   -- chips that have the same parts as these
   pub blocks-as :
-      {c d : Chip} {l m : List ℕ} (x y : Chip) → Blocks t e c l d m → x .gate .mapped ≡ y .gate .mapped → x .lock ≡ y .lock →
+      {c d : Chip} {l m : List ℕ} (x y : Chip) → Blocks t e c l d m → x .gate ≡ y .gate → x .lock ≡ y .lock →
       Same (ownsChannel t e) offChannel (x .sound .channels) (y .sound .channels) → x .sprites ≡ c .sprites → y .sprites ≡ d .sprites →
       x .palette ≡ c .palette → y .palette ≡ d .palette → x .video ≡ c .video → y .video ≡ d .video → Blocks t e x l y m
   blocks-as x y v i j k a b f g p q =
       record {
-        mapped = i;
+        gate = i;
         lock = j;
         channels = k;
         sprites = rw (a, b) (v .sprites);
@@ -99,7 +99,7 @@ module _ {t : Table} {e : Editor} where
     pub on-channels : (x y : List Voice) → Same (ownsChannel t e) offChannel x y → Blocks t e (withChannels c x) l (withChannels d y) m
     on-channels x y h =
         record {
-          mapped = v .mapped;
+          gate = v .gate;
           lock = v .lock;
           channels = h;
           sprites = v .sprites;
@@ -111,7 +111,7 @@ module _ {t : Table} {e : Editor} where
     pub on-sprites : (x y : List Figure) → Same (hasSprite t e) offSprite x y → Blocks t e (withSprites c x) l (withSprites d y) m
     on-sprites x y h =
         record {
-          mapped = v .mapped;
+          gate = v .gate;
           lock = v .lock;
           channels = v .channels;
           sprites = h;
@@ -123,7 +123,7 @@ module _ {t : Table} {e : Editor} where
     pub on-palette : (x y : List ℕ) → Same (hasPalette t e) 0 x y → Blocks t e (withPalette c x) l (withPalette d y) m
     on-palette x y h =
         record {
-          mapped = v .mapped;
+          gate = v .gate;
           lock = v .lock;
           channels = v .channels;
           sprites = v .sprites;
@@ -135,7 +135,7 @@ module _ {t : Table} {e : Editor} where
     pub on-video : (x y : Screen) → (hasScreen t e ≡ true → x ≡ y) → Blocks t e (withVideo c x) l (withVideo d y) m
     on-video x y h =
         record {
-          mapped = v .mapped;
+          gate = v .gate;
           lock = v .lock;
           channels = v .channels;
           sprites = v .sprites;
@@ -147,7 +147,7 @@ module _ {t : Table} {e : Editor} where
     pub on-pixels : (x y : List ℕ) → Same (hasPixel t e) 0 x y → Blocks t e c x d y
     on-pixels x y h =
         record {
-          mapped = v .mapped;
+          gate = v .gate;
           lock = v .lock;
           channels = v .channels;
           sprites = v .sprites;

@@ -15,15 +15,17 @@ use Rattle.chip.specs.Editors.{started}
 use Rattle.chip.specs.Ports.{selected, dataWritten, gateWritten}
 use Rattle.chip.specs.Interrupts.{acknowledged}
 use Rattle.chip.specs.Step.{stepAnswer, stepped, countersStepped}
+use Rattle.draw.specs.Drawing.{drawAnswer}
+use Rattle.line.specs.Contract.{lineAnswer}
 use Rattle.registers.specs.Address.{registerAt}
 use Rattle.contents.specs.Widths.{Widths}
 use Rattle.runs.specs.World.{World, withChip, Loan}
-use Rattle.runs.specs.Call.{Call, bc, bd, gate, read, write, undo, ack, line, start, lend, Reply, servedWorld, replyTo, worldAfter}
+use Rattle.runs.specs.Call.{Call, bc, bd, gate, read, write, undo, ack, line, step, start, lend, Reply, answerTo, replyTo, worldAfter}
 use Rattle.runs.specs.Run.{Made, Makes, Run, ended, on, Each}
 use Rattle.runs.specs.Pair.{Beside, Throughout}
 use Rattle.runs.specs.Pair as pair
 use Rattle.runs.proofs.Calls.{by-answer, fixed}
-use Rattle.runs.proofs.Views.{view}
+use Rattle.runs.proofs.Views.{Lines, drawn-line, stepped-line, view}
 use Rattle.runs.proofs.Within.{call-widths, within}
 use Rattle.runs.proofs.Pairs.{Local, side-by-side}
 use Rattle.noninterference.specs.TwoRuns.{PageCall, reads, writes, undoes, RamAlone, ram, Fair, Session, SameFor, Stays, Noninterference}
@@ -80,11 +82,13 @@ module _ (t : Table) (i : ℕ) (held : t .held ≡ true) (acknowledges : bit 0 i
         both-answer (Sight t e) w v (gate b) refl
         (λ z. record { blocks = gate-blocks (s .blocks) b; ram = s .ram; undo-record = s .undo-record; places = s .places }) s
 
-    line-both : (a : Accesses) → Sight t e (worldAfter w (line a)) (worldAfter v (line a))
+    -- a line, whether it is drawn or not
+    line-both :
+        (c : Call) (a : Accesses) → Lines w c a → Lines v c a → answerTo w c ≡ answerTo v c → Sight t e (worldAfter w c) (worldAfter v c)
     unfolding stepped countersStepped
-    line-both a = both-answer (Sight t e) w v (line a) (ap stepAnswer (s .ram)) (λ z. go (v .lent .ram) (s .ram)) s
+    line-both c a l k same = both-answer (Sight t e) w v c same (λ z. rw (l .next, k .next) (go (v .lent .ram) (s .ram))) s
       where
-        go : (r : List ℕ) → w .lent .ram ≡ r → Sight t e (servedWorld w (line a)) (withChip v (stepped r (v .chip)))
+        go : (r : List ℕ) → w .lent .ram ≡ r → Sight t e (withChip w (stepped (w .lent .ram) (w .chip))) (withChip v (stepped r (v .chip)))
         go r q =
             record {
               blocks = rw (← q) (step-blocks (s .blocks) (w .lent .ram));
@@ -99,6 +103,10 @@ module _ (t : Table) (i : ℕ) (held : t .held ≡ true) (acknowledges : bit 0 i
 
     lend-both : (l : Loan) → RamAlone l → Sight t e (worldAfter w (lend l)) (worldAfter v (lend l))
     lend-both l (ram x) = record { blocks = s .blocks; ram = refl; undo-record = s .undo-record; places = s .places }
+
+    line-number : (n : ℕ) → lineAnswer (w .chip) (w .lent .ram) (w .lent .store) n ≡ lineAnswer (v .chip) (v .lent .ram) (v .lent .store) n
+    unfolding drawAnswer
+    line-number n = rw (s .blocks .gate, s .ram, s .blocks .pixels .size)
 
   -- ---- a call of both runs
   edit-both :
@@ -126,7 +134,8 @@ module _ (t : Table) (i : ℕ) (held : t .held ≡ true) (acknowledges : bit 0 i
   call-both w v (write g a b) p q f s = edit-both w v g a b (which e g) p q s
   call-both w v (undo g) p q f s = back-both w v g (which e g) p q s
   call-both w v ack p q f s = over-both s (acknowledge-leaves w (p .stays)) (acknowledge-leaves v (q .stays))
-  call-both w v (line a) p q f s = line-both w v s a
+  call-both w v (line a n) p q f s = line-both w v s (line a n) a (drawn-line w a n) (drawn-line v a n) (line-number w v s n)
+  call-both w v (step a) p q f s = line-both w v s (step a) a (stepped-line w a) (stepped-line v a) (ap stepAnswer (s .ram))
   call-both w v (start o) p q f s = start-both w v s o
   call-both w v (lend l) p q f s = lend-both w v s l (f .hands .lends l refl)
 
@@ -183,7 +192,7 @@ told-by {t} {e} w v held s =
     record {
       entries = rw (s .undo-record, s .places);
       contents-owned = contents-same t held e (s .blocks);
-      mapped = s .blocks .mapped;
+      mapped = ap (λ g. g .mapped) (s .blocks .gate);
     }
 
 told-throughout :

@@ -61,27 +61,22 @@ module _ {t : Table} {e : Editor} where
     pub select-blocks : (b : ℕ) → Blocks t e (selected c b) l (selected d b) m
     unfolding selected
     select-blocks b =
-        blocks-as (selected c b) (selected d b) v (v .mapped) (ap (λ (x : Lock). fed x b) (v .lock)) (v .channels)
+        blocks-as (selected c b) (selected d b) v (v .gate) (ap (λ (x : Lock). fed x b) (v .lock)) (v .channels)
         refl refl refl refl refl refl
-
-    mapped-after : (b : ℕ) (page : Bool) → gateAfter (c .gate) page b .mapped ≡ gateAfter (d .gate) page b .mapped
-    unfolding gateAfter
-    mapped-after b true = refl
-    mapped-after b false = v .mapped
 
     pub gate-blocks : (b : ℕ) → Blocks t e (gateWritten c b) l (gateWritten d b) m
     unfolding gateWritten
     gate-blocks b =
-        blocks-as (gateWritten c b) (gateWritten d b) v (rw (v .lock) (mapped-after b (forPage d b))) (v .lock) (v .channels)
+        blocks-as (gateWritten c b) (gateWritten d b) v (rw (v .lock) (ap (λ g. gateAfter g (forPage d b) b) (v .gate))) (v .lock) (v .channels)
         refl refl refl refl refl refl
 
     pub step-blocks : (ram : List ℕ) → Blocks t e (stepped ram c) l (stepped ram d) m
     unfolding stepped countersStepped soundAfter
     step-blocks ram =
-        blocks-as (stepped ram c) (stepped ram d) v (v .mapped) (v .lock) (channels-after t e ram _ _ (v .channels))
+        blocks-as (stepped ram c) (stepped ram d) v (v .gate) (v .lock) (channels-after t e ram _ _ (v .channels))
         refl refl refl refl refl refl
 
     pub start-blocks : (o : Owners) → Blocks t e (started c o) l (started d o) m
     unfolding started
     start-blocks o =
-        blocks-as (started c o) (started d o) v (v .mapped) (v .lock) (v .channels) refl refl refl refl refl refl
+        blocks-as (started c o) (started d o) v (v .gate) (v .lock) (v .channels) refl refl refl refl refl refl

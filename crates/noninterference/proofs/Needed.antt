@@ -33,7 +33,8 @@ use Rattle.chip.specs.Editors.{noEntries, started}
 use Rattle.chip.specs.Reset.{resetCrtc, resetVideo, resetSound, resetChip}
 use Rattle.chip.specs.Ports.{selected, gateAnswer, gateAfter, gateWritten}
 use Rattle.chip.specs.Interrupts.{sourceOf, acknowledgeAnswer, acknowledged, soundServed}
-use Rattle.chip.specs.Step.{stepAnswer, countersStepped, stepped}
+use Rattle.chip.specs.Step.{countersStepped, stepped}
+use Rattle.draw.specs.Drawing.{drawAnswer}
 use Rattle.registers.specs.Address.{registerAt, spriteAt, videoAt, channelAt}
 use Rattle.registers.specs.Registers.{dcsr}
 use Rattle.page.specs.Page.{pageAnswer, readAnswer, writeAnswer, pageWritten, placesAfter}
@@ -320,7 +321,7 @@ off = record { first = Off; second = Off; third = Off }
 
 -- IVR is 0, the two channels are enabled, a line passes, the table is given
 abbrev raises : List Call
-raises = write Song 0x6805 0 ∷ write Song 0x6c0f 5 ∷ line off ∷ start lastPicture ∷ []
+raises = write Song 0x6805 0 ∷ write Song 0x6c0f 5 ∷ line off 640 ∷ start lastPicture ∷ []
 
 -- a channel that is enabled, and after its INT
 abbrev playing : Voice
@@ -363,15 +364,16 @@ unfolding writeAnswer pageAnswer registerAt videoAt channelAt pageWritten places
 enabled l h = rw h (rw h refl)
 
 interrupts :
-    (l : Buffers) → length (l .ram) ≡ 65536 → wordAt (l .ram) 0 ≡ 0x4010 → worldAfter (sounding l playing) (line off) ≡ sounding l waits
-unfolding stepAnswer stepped countersStepped soundAfter turnOf pauseCounted active fetched controlled kindOf lineOf rasterDue splitDue captured frameEnds frameStart nextLine
-interrupts l h k = rw (h, k) refl
+    (l : Buffers) → length (l .ram) ≡ 65536 → length (l .store) ≡ 4096 → wordAt (l .ram) 0 ≡ 0x4010 →
+    worldAfter (sounding l playing) (line off 640) ≡ sounding l waits
+unfolding drawAnswer stepped countersStepped soundAfter turnOf pauseCounted active fetched controlled kindOf lineOf rasterDue splitDue captured frameEnds frameStart nextLine
+interrupts l h s k = rw (h, s, k) refl
 
 begins-waiting : (l : Buffers) → Lent l → worldOver (fresh l) (opensThen raises) ≡ waiting l
 unfolding started
 begins-waiting l s =
-    opened l raises ∙ ap (λ (w : World). worldOver w (line off ∷ start lastPicture ∷ [])) (enabled l (s .store-size))
-    ∙ ap (λ (w : World). worldAfter w (start lastPicture)) (interrupts l (s .ram-size) (s .word))
+    opened l raises ∙ ap (λ (w : World). worldOver w (line off 640 ∷ start lastPicture ∷ [])) (enabled l (s .store-size))
+    ∙ ap (λ (w : World). worldAfter w (start lastPicture)) (interrupts l (s .ram-size) (s .store-size) (s .word))
 
 raises-good : Every Good raises
 raises-good = (

@@ -198,7 +198,7 @@ own-step {w} (writes f a b e) k t h o =
     owned-by (ap (λ (u : World). u .chip .editing .table) (fixed k .world-is) ∙ write-table w f a b) (λ g. write-each k (t .0) o (which g f))
 own-step {w} (undoes f e) k t h o =
     owned-by (ap (λ (u : World). u .chip .editing .table) (fixed k .world-is) ∙ undo-table w f) (λ g. undo-each k o (which g f))
-own-step (steps a) k t h o = unmoved k refl (λ g. refl) o
+own-step (steps a l) k t h o = unmoved k (rw (l .next)) (λ g. rw (l .next)) o
 own-step {w} (starts q) k t h o =
     rw (fixed k .world-is)
     (record { each = λ g. empty-own (started (w .chip) q .editing) (placesOf (w .lent) g) (started-none g (w .chip) q) })
@@ -308,7 +308,7 @@ unfolding stepped countersStepped
 stays-step held (feeds b l) k f o s = both-stay k (rw (l .editing)) (l .ivr) s
 stays-step held (writes g a b e) k f o s = write-stays held k s
 stays-step held (undoes g e) k f o s = undo-stays held k o s
-stays-step held (steps a) k f o s = both-stay k refl refl s
+stays-step held (steps a l) k f o s = both-stay k (rw (l .next)) (rw (l .next)) s
 stays-step held (starts q) k f o s = start-stays k (f .starts q refl) s
 stays-step held (lends l) k f o s = both-stay k refl refl s
 stays-step held (plain p q l) k f o s = both-stay k (rw (l .editing)) (l .ivr) s

@@ -78,11 +78,11 @@ with-editing :
     {t : Table} {e : Editor} {c d : Chip} {l m : List ℕ} (x y : Editing) → Blocks t e c l d m →
     Blocks t e (withEditing c x) l (withEditing d y) m
 with-editing {c = c} {d = d} x y v =
-    blocks-as (withEditing c x) (withEditing d y) v (v .mapped) (v .lock) (v .channels) refl refl refl refl refl refl
+    blocks-as (withEditing c x) (withEditing d y) v (v .gate) (v .lock) (v .channels) refl refl refl refl refl refl
 
 beside-editing :
     {t : Table} {e : Editor} {c d : Chip} {l m : List ℕ} (y : Editing) → Blocks t e c l d m → Blocks t e c l (withEditing d y) m
-beside-editing {c = c} {d = d} y v = blocks-as c (withEditing d y) v (v .mapped) (v .lock) (v .channels) refl refl refl refl refl refl
+beside-editing {c = c} {d = d} y v = blocks-as c (withEditing d y) v (v .gate) (v .lock) (v .channels) refl refl refl refl refl refl
 
 -- a read leaves every sight
 pub read-leaves : {t : Table} {e : Editor} (w : World) (f : Editor) (a bus : ℕ) → Sight t e w (worldAfter w (read f a bus))
@@ -132,13 +132,13 @@ module _ {t : Table} {i : ℕ} (held : t .held ≡ true) (e : Editor) (w : World
 module _ {t : Table} (e : Editor) (w v : World) (s : Sight t e w v) where
   pub read-number : (a : ℕ) → readAnswer (w .chip) (length (w .lent .store)) a ≡ readAnswer (v .chip) (length (v .lent .store)) a
   unfolding readAnswer pageAnswer
-  read-number a = rw (s .blocks .mapped, s .blocks .pixels .size)
+  read-number a = rw (s .blocks .gate, s .blocks .pixels .size)
 
   pub write-number :
       {i j : ℕ} → Stays t i w → Stays t j v → (a : ℕ) →
       writeAnswer (w .chip) e (length (w .lent .store)) a ≡ writeAnswer (v .chip) e (length (v .lent .store)) a
   unfolding writeAnswer pageAnswer
-  write-number p q a = rw (s .blocks .mapped, s .blocks .pixels .size, p .table, q .table)
+  write-number p q a = rw (s .blocks .gate, s .blocks .pixels .size, p .table, q .table)
 
   pub undo-number : undoAnswer (w .chip) e (length (w .lent .store)) ≡ undoAnswer (v .chip) e (length (v .lent .store))
   unfolding undoAnswer

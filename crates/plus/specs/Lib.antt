@@ -1,5 +1,5 @@
--- What leaves through the C interface in another form than inside, the line report and the forecast's list; what undo, start and mend
--- promise over runs of calls; and what the library tells of itself.
+-- What leaves through the C interface in another form than inside, the line report and the forecast's list; what undo, start and mend promise
+-- over runs of calls; and what the library tells of itself.
 pub mod Report
 pub mod Promises
 pub mod Undo

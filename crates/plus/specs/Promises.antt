@@ -1,4 +1,4 @@
--- What the line step and the forecast promise in their C form. The other calls have the promises of their crates.
+-- What the line's call and the forecast promise in their C form. The other calls have the promises of their crates.
 use mathlib.Core.Path.{_≡_}
 use mathlib.Core.List.{List, []}
 use Prim.Native.Nat.{ℕ, _≤_}
@@ -8,7 +8,9 @@ use Rattle.sound.specs.declared.Report.{Report}
 use Rattle.sound.specs.Line.{soundReport}
 use Rattle.chip.specs.declared.Chip.{Chip}
 use Rattle.common.specs.Answers.{served}
-use Rattle.chip.specs.Step.{stepAnswer, stepped, idleReport}
+use Rattle.chip.specs.Step.{stepped, idleReport}
+use Rattle.draw.specs.Drawing.{Draws}
+use Rattle.line.specs.Contract.{lineAnswer}
 use Rattle.forecast.specs.declared.Length.{Length}
 use Rattle.forecast.specs.Contract.{Forecasts}
 use Rattle.forecast.specs.Rule.{even, answerOf, listOf}
@@ -16,17 +18,18 @@ use Rattle.plus.specs.declared.PlusStepped.{PlusStepped}
 use Rattle.plus.specs.declared.PlusLength.{PlusLength}
 use Rattle.plus.specs.Report.{kindsOf, lowsOf}
 
--- the report of a line step: the line's, or that of a refusal
-abbrev pub reportOf : Chip → List ℕ → Accesses → Report
-reportOf c ram a = served (stepAnswer ram) (soundReport ram a (c .sound)) idleReport
+-- the report of a line: the line's, or that of a refusal
+abbrev pub reportOf : ℕ → Chip → List ℕ → Accesses → Report
+reportOf number c ram a = served number (soundReport ram a (c .sound)) idleReport
 
--- the line step; no line costs over 34 cycles
-pub record StepReported (c : Chip) (ram : List ℕ) (a : Accesses) (r : PlusStepped) : Type 0 where
-  pub answer : r .answer ≡ stepAnswer ram
-  pub chip : r .chip ≡ served (stepAnswer ram) (stepped ram c) c
-  pub cycles : r .cycles ≡ reportOf c ram a .cycles
-  pub kinds : r .kinds ≡ kindsOf (reportOf c ram a .entries)
-  pub lows : r .lows ≡ lowsOf (reportOf c ram a .entries)
+-- the line's call: drawn, then stepped; refused, neither. No line costs over 34 cycles
+pub record LineTold (c : Chip) (ram store : List ℕ) (a : Accesses) (line line' : List ℕ) (r : PlusStepped) : Type 0 where
+  pub answer : r .answer ≡ lineAnswer c ram store (length line)
+  pub draws : Draws c ram store line line' (r .answer)
+  pub chip : r .chip ≡ served (r .answer) (stepped ram c) c
+  pub cycles : r .cycles ≡ reportOf (r .answer) c ram a .cycles
+  pub kinds : r .kinds ≡ kindsOf (reportOf (r .answer) c ram a .entries)
+  pub lows : r .lows ≡ lowsOf (reportOf (r .answer) c ram a .entries)
   pub bound : r .cycles ≤ 34
 
 -- the part of the answer that forecast's own promise is about

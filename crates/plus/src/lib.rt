@@ -27,7 +27,6 @@ ghost use Rattle.editors.specs.Table.{editorBy};
 ghost use Rattle.picture.specs.Palette.{greyOf};
 ghost use Rattle.page.specs.Page.{Reads, Writes};
 ghost use Rattle.export.specs.Export.{Exports};
-ghost use Rattle.draw.specs.Drawing.{Draws};
 ghost use Rattle.listing.specs.Contract.{PrintsWords, ReadsText};
 ghost use Rattle.mend.specs.Rule.{changeAt};
 ghost use Rattle.take.specs.Record.{packed, unpacked};
@@ -35,13 +34,13 @@ ghost use Rattle.take.specs.Open.{Opening, ReadsRecord};
 ghost use Rattle.take.specs.Contract.{WritesTake};
 ghost use Rattle.replay.specs.Contract.{Replays};
 ghost use Rattle.plus.specs.Report.{accessesBy, kindNumber, lowOf, kindsOf, lowsOf};
-ghost use Rattle.plus.specs.Promises.{StepReported, LengthTold};
+ghost use Rattle.plus.specs.Promises.{LineTold, LengthTold};
 ghost use Rattle.plus.specs.Undo.{UndoTold};
 ghost use Rattle.plus.specs.Start.{StartTold};
 ghost use Rattle.plus.specs.Mend.{MendTold};
 ghost use Rattle.plus.specs.Built.{Built};
 
-// A line step's answer, without enums: of each channel the number of what it did, and the low 12 bits of its word.
+// A line's answer, without enums: of each channel the number of what it did, and the low 12 bits of its word.
 #[repr(C)]
 pub struct PlusStepped {
     pub chip: Chip,
@@ -75,7 +74,7 @@ pub extern "C" fn plus_built() -> PlusBuilt
     ensures { λ r. ⌜ Built r ⌝ }
 {
     PlusBuilt {
-        version: 1100,
+        version: 1200,
         state: 256,
     }
 }
@@ -244,12 +243,21 @@ fn accesses(first: u8, second: u8, third: u8) -> Accesses
     }
 }
 
-// One line: sound, raster compare, split compare, counters. The numbers say what the processor does at the 8255 for each channel.
+// Draws the current line into 640 bytes, and steps the chip to the next. The numbers say what the processor does at the 8255 for each
+// channel.
 #[no_mangle]
-pub extern "C" fn plus_step(chip: Chip, ram: &[u8], first: u8, second: u8, third: u8) -> PlusStepped
-    ensures { λ r. ⌜ StepReported chip (now (ram .entry)) (accessesBy first second third) r ⌝ }
+pub extern "C" fn plus_line(
+    chip: Chip,
+    ram: &[u8],
+    store: &[u8],
+    line: &mut [u8],
+    first: u8,
+    second: u8,
+    third: u8,
+) -> PlusStepped
+    ensures { λ r. ⌜ LineTold chip (now (ram .entry)) (now (store .entry)) (accessesBy first second third) (now (line .entry)) (now (line .exit)) r ⌝ }
 {
-    let stepped = chip::line::step(chip, ram, accesses(first, second, third));
+    let stepped = line::line(chip, ram, store, line, accesses(first, second, third));
     let next = stepped.chip;
     let report = stepped.report;
     let entries = report.entries;
@@ -295,14 +303,6 @@ pub extern "C" fn plus_grey(low: u8, high: u8) -> u8
     ensures { λ r. ⌜ r ≡ greyOf low high ⌝ }
 {
     picture::palette::grey(low, high)
-}
-
-// Draws the current line into 640 bytes.
-#[no_mangle]
-pub extern "C" fn plus_draw(chip: Chip, ram: &[u8], store: &[u8], line: &mut [u8]) -> u8
-    ensures { λ r. ⌜ Draws chip (now (ram .entry)) (now (store .entry)) (now (line .entry)) (now (line .exit)) r ⌝ }
-{
-    draw::draw(chip, ram, store, line)
 }
 
 // Prints words as text.

@@ -1,6 +1,7 @@
 // Plays a take for each list of the forecast table, steps on to its STOP, and prints the lines and the channel's own cycles.
 use chip::Answered;
 use chip::Chip;
+use chip::Stepped;
 use common::answer::DONE;
 use common::answer::NO_STOP;
 use editors::Owners;
@@ -141,9 +142,21 @@ fn played(ram: &[u8; 65536], prescale: u8) -> Answered {
     }
 }
 
-// Lines stepped on to the STOP of channel 0, with the processor off the 8255, and the channel's own cycles on them. Where no STOP comes
-// the number is that of a list without one.
+// One line, with the processor off the 8255.
+fn line_on(chip: Chip, ram: &[u8; 65536], store: &[u8; 4096], line: &mut [u8; 640]) -> Stepped {
+    let off = Accesses {
+        first: Access::Off,
+        second: Access::Off,
+        third: Access::Off,
+    };
+    line::line(chip, ram, store, line, off)
+}
+
+// Lines stepped on to the STOP of channel 0, and the channel's own cycles on them. Where no STOP comes the number is that of a list
+// without one.
 fn stepped_on(chip: Chip, ram: &[u8; 65536]) -> Length {
+    let store = [0u8; 4096];
+    let mut line = [0u8; 640];
     let mut next = chip;
     let mut lines = 0u64;
     let mut cycles = 0u64;
@@ -157,12 +170,10 @@ fn stepped_on(chip: Chip, ram: &[u8; 65536]) -> Length {
                 cycles,
             };
         }
-        let off = Accesses {
-            first: Access::Off,
-            second: Access::Off,
-            third: Access::Off,
-        };
-        let told = chip::line::step(next, ram, off);
+        let told = line_on(next, ram, &store, &mut line);
+        if told.answer != DONE {
+            return refused(told.answer);
+        }
         next = told.chip;
         let report = told.report;
         let entry = report.entries[0];

@@ -4,8 +4,9 @@ use mathlib.Core.List.{List}
 use Prim.Native.Nat.{ℕ, _+_, _*_}
 use native.Mathlib.Numerals.{add-one}
 use Rattle.calls.specs.declared.Machine.{Machine}
-use Rattle.calls.specs.declared.Order.{Order}
-use Rattle.calls.specs.Orders.{Running, runningOf, Serves}
+use Rattle.orders.specs.declared.Order.{Order}
+use Rattle.calls.specs.Orders.{Running, runningOf}
+use Rattle.orders.specs.Letters.{Serves}
 use Rattle.plus_run.specs.Blocks.{Takes, Roomy, orderServed, ordersServed}
 
 -- the order at a place of a block is served, once there is room

@@ -6,10 +6,11 @@ use lib.Dec.{leb}
 use lib.ListN.{length, getD}
 use Rattle.common.specs.Choice.{if}
 use Rattle.calls.specs.declared.Machine.{Machine}
-use Rattle.calls.specs.declared.Order.{Order}
+use Rattle.orders.specs.declared.Order.{Order}
 use Rattle.text.specs.Text.{Appends}
 use Rattle.text.specs.Lines.{shortLine}
-use Rattle.calls.specs.Orders.{Running, actOf, stateBy}
+use Rattle.calls.specs.Orders.{Running, stateBy}
+use Rattle.orders.specs.Letters.{actOf}
 
 -- the address of the order at a place of a block, low byte first
 abbrev pub addressAt : List ℕ → ℕ → ℕ

@@ -1,9 +1,9 @@
 // Plays calls of the chip from standard input and prints a line for each. The input is RAM, the pixel store, then orders of
 // four bytes: a letter, the address low and high, a value.
 use calls::Machine;
-use calls::Order;
 use libc::STDIN_FILENO;
 use libc::STDOUT_FILENO;
+use orders::Order;
 use text::lines;
 ghost use mathlib.Core.Path.{_≡_};
 ghost use Prim.Native.Nat.{_+_, _/_, _≤_};
@@ -69,7 +69,7 @@ fn turn(
     ensures { λ r. ⌜ runningOf r (now (ram .exit)) (now (store .exit)) (now (song .exit)) (now (picture .exit)) ≡ orderServed (runningOf m (now (ram .entry)) (now (store .entry)) (now (song .entry)) (now (picture .entry))) (now (block .entry)) i ⌝ }
 {
     let ready = with_room(m, out);
-    calls::serve(ready, ram, store, song, picture, out, order_at(block, i))
+    orders::serve(ready, ram, store, song, picture, out, order_at(block, i))
 }
 
 // Every whole order of a block.

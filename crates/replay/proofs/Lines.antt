@@ -16,7 +16,7 @@ use Rattle.chip.specs.declared.Chip.{Chip}
 use Rattle.chip.specs.declared.line.Moved.{Moved}
 use Rattle.chip.specs.Step.{stepAnswer, countersStepped, stepped, Moves}
 use Rattle.runs.specs.World.{World, withChip}
-use Rattle.runs.specs.Call.{Call, line, answerTo, worldAfter}
+use Rattle.runs.specs.Call.{Call, step, answerTo, worldAfter}
 use Rattle.runs.specs.Sort.{onLine}
 use Rattle.runs.specs.Run.{worldOver}
 use Rattle.take.specs.declared.Record.{Record}
@@ -31,14 +31,12 @@ full-served ram e = simp (eq-eqb _ _ e)
 
 -- the parts that a served line moves are those of the chip after it
 pub parts-moved :
-    (ram : List ℕ) (c : Chip) (s : Sound) (k : Crtc) (raster : Bool) (a : Accesses) (r : Moved) → length ram ≡ 65536 →
+    (ram : List ℕ) (c : Chip) (s : Sound) (k : Crtc) (raster : Bool) (a : Accesses) (r : Moved) →
     Moves s k (c .video) ram a r →
     moved c (r .sound) (record { selected = k .selected; registers = k .registers; counters = r .counters }) (either (r .raster) raster)
     ≡ stepped ram (moved c s k raster)
 unfolding stepped countersStepped
-parts-moved ram c s k raster a r whole m =
-    let served = full-served ram whole in
-    rw (m .sound, m .counters, m .raster, served)
+parts-moved ram c s k raster a r m = rw (m .sound, m .counters, m .raster)
 
 module _ (ram : List ℕ) (to at : ℕ) (c : Chip) where
   -- one line is stepped, and one fewer is left
@@ -71,7 +69,7 @@ lines-first zero p cs full = rw (add-zero (p .lines))
 lines-first (suc n) p cs full =
     let w = p .world in
     let next = withChip w (stepped (w .lent .ram) (w .chip)) in
-    let on : worldAfter w (line off) ≡ next = simp (eq-eqb _ _ (full-served (w .lent .ram) full)) in
+    let on : worldAfter w (step off) ≡ next = simp (eq-eqb _ _ (full-served (w .lent .ram) full)) in
     let e : suc (p .lines) + n ≡ p .lines + suc n = omega arith in
     ap (λ (x : World). over (record { world = x; lines = suc (p .lines); counts = p .counts }) (linesThen n cs)) on
     ∙ lines-first n (record { world = next; lines = suc (p .lines); counts = p .counts }) cs full

@@ -12,7 +12,7 @@ use Rattle.sound.specs.declared.Accesses.{Accesses}
 use Rattle.chip.specs.Reset.{resetChip}
 use Rattle.take.specs.declared.Record.{Record}
 use Rattle.runs.specs.World.{World, worldOf}
-use Rattle.runs.specs.Call.{Call, bc, bd, gate, write, undo, ack, line, start}
+use Rattle.runs.specs.Call.{Call, bc, bd, gate, write, undo, ack, step, start}
 use Rattle.runs.specs.Sort.{onLine}
 use Rattle.runs.specs.Run.{Made, madeOver, worldOver}
 
@@ -30,13 +30,14 @@ callBy o r =
     (if (eqb (r .kind) 8) (undo Picture ∷ [])
     (if (eqb (r .kind) 9) (start o ∷ []) []))))))))
 
--- a line step with the processor off the 8255 for each channel; so many of them before other calls
+-- a line step with the processor off the 8255 for each channel; so many of them before other calls. It is the core's, which draws nothing:
+-- a replay has no line to draw into, and steps in mode 3 too, where the line's call is refused
 abbrev pub off : Accesses
 off = record { first = Off; second = Off; third = Off }
 
 unfoldable pub linesThen : ℕ → List Call → List Call
 linesThen zero cs = cs
-linesThen (suc n) cs = line off ∷ linesThen n cs
+linesThen (suc n) cs = step off ∷ linesThen n cs
 
 -- the line number after lines were stepped until another is reached: none where it is reached already
 abbrev pub later : ℕ → ℕ → ℕ

@@ -2,10 +2,9 @@
 use mathlib.Core.Path.{_≡_, refl, sym, _∙_, ap}
 use mathlib.Core.Bool.{Bool, true, false}
 use mathlib.Core.List.{List, []}
-use Prim.Native.Nat.{ℕ, _≤_}
-use native.Mathlib.Omega.{arith}
+use Prim.Native.Nat.{ℕ}
 use lib.Dec.{eqb}
-use lib.ListN.{length}
+use lib.ListN.{length, length-replicate, replicate}
 use contract.Lifetimes.{Lfts}
 use denote.Ref.{RefT, now}
 use borrow.Author.Tests.{eqb-true, eq-eqb, ne-eqb}
@@ -15,21 +14,19 @@ use Rattle.editors.specs.declared.Editor.{Editor}
 use Rattle.editors.specs.declared.Editor.the-variants.{Song, Picture}
 use Rattle.editors.specs.Table.{other}
 use Rattle.lock.proofs.Steps.{feeds}
-use Rattle.sound.specs.declared.Accesses.{Accesses}
-use Rattle.sound.specs.Line.{soundReport}
-use Rattle.sound.proofs.Laws.{line-cycles}
 use Rattle.chip.specs.declared.Chip.{Chip}
 use Rattle.chip.specs.Contracts.{Answers}
 use Rattle.chip.specs.Ports.{selected, Selects, dataAnswer, dataWritten, gateAnswer, gateWritten}
 use Rattle.chip.specs.Interrupts.{acknowledged}
-use Rattle.chip.specs.Step.{stepAnswer, stepped, idleReport, Steps}
+use Rattle.chip.specs.Step.{stepAnswer, stepped}
+use Rattle.line.proofs.Possible.{steps-by, line-possible}
 use Rattle.registers.specs.Address.{registerAt}
 use Rattle.registers.specs.Registers.{storeWritten}
 use Rattle.page.specs.Page.{pageWritten, placesAfter, Writes}
 use Rattle.page.specs.Undo.{newest, undone, storeUndone, Undoes}
 use Rattle.page.proofs.Ways.{write-possible, undo-possible}
 use Rattle.runs.specs.World.{World, placesOf, withChip, edited}
-use Rattle.runs.specs.Call.{Call, bc, bd, gate, read, write, undo, ack, line, start, lend, Reply, answerTo, servedWorld, replyTo, worldAfter}
+use Rattle.runs.specs.Call.{Call, bc, bd, gate, read, write, undo, ack, line, step, start, lend, Reply, answerTo, servedWorld, replyTo, worldAfter}
 use Rattle.runs.specs.Run as run
 use Rattle.runs.specs.Run.{Makes}
 
@@ -113,10 +110,15 @@ fixed {w} (run.undo κs e store places store' r s p l) =
     }
 fixed {w} (run.ack r l) =
     record { reply-is = rw (l .answer, l .vector); world-is = rw (l .chip) (chip-served (answerTo w ack) w (acknowledged (w .chip))) }
-fixed {w} (run.line κs ram a r s l) =
+fixed {w} (run.line κs ram store shown shown' a n r s t u l) =
+    record {
+      reply-is = rw (l .steps .answer, l .steps .report, s, t, u);
+      world-is = rw (l .steps .chip, s, t, u) (chip-served (answerTo w (line a n)) w (stepped (w .lent .ram) (w .chip)));
+    }
+fixed {w} (run.step κs ram a r s l) =
     record {
       reply-is = rw (l .answer, l .report, s);
-      world-is = rw (l .chip, s) (chip-served (answerTo w (line a)) w (stepped (w .lent .ram) (w .chip)));
+      world-is = rw (l .chip, s) (chip-served (answerTo w (step a)) w (stepped (w .lent .ram) (w .chip)));
     }
 fixed {w} (run.start o r l) = record { reply-is = rw (l .answer); world-is = rw (l .chip) }
 fixed {w} (run.lend l) = record { reply-is = refl; world-is = refl }
@@ -169,26 +171,15 @@ lifetime = ([], tt)
 abbrev pub lifetimes : Lfts 2
 lifetimes = ([], ([], tt))
 
+abbrev three-lifetimes : Lfts 3
+three-lifetimes = ([], ([], ([], tt)))
+
 answers : (number : ℕ) (next c : Chip) → Answers number next c (record { answer = number; chip = served number next c })
 answers number next c = record { answer = refl; chip = refl }
 
 selects : (c : Chip) (b : ℕ) → Selects c b (record { answer = 0; chip = selected c b })
 unfolding selected
 selects c b = record { call = answers _ _ c; tracks = feeds (c .lock) b _ refl .tracks }
-
-steps : (ram : List ℕ) (a : Accesses) (c : Chip) →
-    Steps c ram a
-    (record {
-      answer = stepAnswer ram;
-      chip = served (stepAnswer ram) (stepped ram c) c;
-      report = served (stepAnswer ram) (soundReport ram a (c .sound)) idleReport;
-    })
-unfolding idleReport
-steps ram a c = record { answer = refl; chip = refl; report = refl; bound = go (eqb (stepAnswer ram) 0) }
-  where
-    go : (t : Bool) → (if t (soundReport ram a (c .sound)) idleReport) .cycles ≤ 34
-    go true = line-cycles ram a (c .sound)
-    go false = omega arith
 
 -- a call with its reply and the world after it, as the contract has them
 record Way (w : World) (c : Call) : Type 0 where
@@ -234,8 +225,20 @@ way w ack h =
       after = _;
       made = run.ack (record { answer = _; chip = _; vector = _ }) (record { answer = refl; chip = refl; vector = refl });
     }
-way w (line a) h =
-    record { reply = _; after = _; made = run.line lifetime (lending (w .lent .ram)) a _ refl (steps (w .lent .ram) a (w .chip)) }
+way w (line a n) h =
+    record {
+      reply = _;
+      after = _;
+      made =
+          run.line three-lifetimes (lending (w .lent .ram)) (lending (w .lent .store)) (lending (replicate n 0)) _ a n _ refl refl (length-replicate n 0)
+          (line-possible (w .chip) (w .lent .ram) (w .lent .store) (replicate n 0) a);
+    }
+way w (step a) h =
+    record {
+      reply = _;
+      after = _;
+      made = run.step lifetime (lending (w .lent .ram)) a _ refl (steps-by (stepAnswer (w .lent .ram)) (w .chip) (w .lent .ram) a);
+    }
 way w (start o) h = record { reply = _; after = _; made = run.start o _ (answers _ _ (w .chip)) }
 way w (lend l) h = record { reply = _; after = _; made = run.lend l }
 

@@ -45,7 +45,7 @@ one-hands ed w c (writes f a b e) k =
     by-answer (λ v. handedTo (same ed f) v ed (lentOn w ed) ≡ lentOn v ed) w c (λ z. edit-hands w _ _ _ (which ed f)) (stays-hands w (which ed f))
 one-hands ed w c (undoes f e) k =
     by-answer (λ v. handedTo (same ed f) v ed (lentOn w ed) ≡ lentOn v ed) w c (λ z. edit-hands w _ _ _ (which ed f)) (stays-hands w (which ed f))
-one-hands ed w c (steps a) k = by-answer (λ v. lentOn w ed ≡ lentOn v ed) w c (λ z. refl) refl
+one-hands ed w c (steps a l) k = rw (l .sorts) (by-answer (λ v. lentOn w ed ≡ lentOn v ed) w c (λ z. rw (l .next)) refl)
 one-hands ed w c (starts o) k = refl
 one-hands ed w c (lends l) k = absurd k
 one-hands ed w c (plain s q l) k = rw s (by-answer (λ v. lentOn w ed ≡ lentOn v ed) w c (λ z. rw (l .lent)) refl)

@@ -46,7 +46,7 @@ unfolding selected steppedChip countersStepped started
 call-tracks w c (feeds b l) h t = fed-lock (w .chip .lock) b _ refl .tracks h t
 call-tracks w c (writes ed a b e) h t = by-answer (λ v. Tracks h (v .chip .lock)) w c (λ z. rw (edit-lock e) t) t
 call-tracks w c (undoes ed e) h t = by-answer (λ v. Tracks h (v .chip .lock)) w c (λ z. rw (edit-lock e) t) t
-call-tracks w c (steps a) h t = by-answer (λ v. Tracks h (v .chip .lock)) w c (λ z. t) t
+call-tracks w c (steps a l) h t = rw (l .sorts) (by-answer (λ v. Tracks h (v .chip .lock)) w c (λ z. rw (l .next) t) t)
 call-tracks w c (starts o) h t = t
 call-tracks w c (lends l) h t = t
 call-tracks w c (plain s q l) h t = rw s (by-answer (λ v. Tracks h (v .chip .lock)) w c (λ z. rw q t) t)

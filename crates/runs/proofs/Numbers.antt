@@ -13,6 +13,7 @@ use Rattle.chip.specs.Editors.{undoOf}
 use Rattle.chip.specs.Ports.{dataAnswer, gateAnswer, gateServed}
 use Rattle.chip.specs.Interrupts.{acknowledgeAnswer, sourceOn, nobody}
 use Rattle.chip.specs.Step.{stepAnswer}
+use Rattle.draw.specs.Drawing.{drawAnswer}
 use Rattle.registers.specs.declared.address.Register.{Register}
 use Rattle.registers.specs.declared.address.Register.the-variants.{Pixel, Sprite, Palette, Video, Ivr, Converter, Channel, Dcsr, Status, Empty}
 use Rattle.registers.specs.Address.{registerAt}
@@ -21,7 +22,7 @@ use Rattle.registers.specs.Registers.{registerAnswer}
 use Rattle.page.specs.Page.{pageAnswer, readAnswer, writeAnswer}
 use Rattle.page.specs.Undo.{undoAnswer}
 use Rattle.runs.specs.World.{World}
-use Rattle.runs.specs.Call.{Call, bc, bd, gate, read, write, undo, ack, line, start, lend, answerTo}
+use Rattle.runs.specs.Call.{Call, bc, bd, gate, read, write, undo, ack, line, step, start, lend, answerTo}
 
 either-small : (t : Bool) {m n : ℕ} → m < 24 → n < 24 → if t m n < 24
 either-small true h i = h
@@ -47,7 +48,7 @@ page-small c size a rest h =
 
 -- every call
 pub answer-small : (w : World) (x : Call) → answerTo w x < 24
-unfolding dataAnswer gateAnswer readAnswer writeAnswer undoAnswer acknowledgeAnswer stepAnswer
+unfolding dataAnswer gateAnswer readAnswer writeAnswer undoAnswer acknowledgeAnswer stepAnswer drawAnswer
 answer-small w (bc b) = omega arith
 answer-small w (bd b) = either-small (hasRegister (w .chip .crtc .selected)) (omega arith) (omega arith)
 answer-small w (gate b) = either-small (gateServed b) (omega arith) (omega arith)
@@ -59,6 +60,9 @@ answer-small w (undo e) =
     either-small (eqb (length (w .lent .store)) 4096)
     (either-small (eqb (undoOf (w .chip .editing) e .count) 0) (omega arith) (omega arith)) (omega arith)
 answer-small w ack = either-small (eqb (sourceOn (w .chip)) nobody) (omega arith) (omega arith)
-answer-small w (line a) = either-small (eqb (length (w .lent .ram)) 65536) (omega arith) (omega arith)
+answer-small w (line a n) =
+    either-small (both (eqb (length (w .lent .ram)) 65536) (both (eqb (length (w .lent .store)) 4096) (eqb n 640)))
+    (either-small (eqb (w .chip .gate .mode) 3) (omega arith) (omega arith)) (omega arith)
+answer-small w (step a) = either-small (eqb (length (w .lent .ram)) 65536) (omega arith) (omega arith)
 answer-small w (start o) = omega arith
 answer-small w (lend l) = omega arith

@@ -83,7 +83,7 @@ whole-by : (w : World) (c : Call) → View w c → ((l : Loan) → c ≡ lend l 
 whole-by w c (feeds b l) h = tt
 whole-by w c (writes ed a b e) h = tt
 whole-by w c (undoes ed e) h = tt
-whole-by w c (steps a) h = tt
+whole-by w c (steps a l) h = rw (l .sorts) tt
 whole-by w c (starts o) h = tt
 whole-by w c (lends l) h = h l refl
 whole-by w c (plain s q l) h = rw s tt
@@ -116,7 +116,7 @@ served-whole w c (writes ed a b e) h k = edit-whole w ed (w .chip) (w .lent .sto
     go true = simp length-set (k ed)
     go false = k ed
 served-whole w c (undoes ed e) h k = edit-whole w ed (w .chip) (w .lent .store) _ (k ed) k
-served-whole w c (steps a) h k = k
+served-whole w c (steps a l) h k = λ e. rw (l .next) (k e)
 served-whole w c (starts o) h k = k
 served-whole w c (lends l) h k = loan-whole w l h k
 served-whole w c (plain s q l) h k = λ e. rw (l .lent) (k e)

@@ -3,16 +3,18 @@
 use mathlib.Core.Path.{_≡_, refl, ap}
 use mathlib.Core.List.{[]}
 use Prim.Native.Nat.{ℕ}
+use Rattle.common.specs.Answers.{served}
 use Rattle.editors.specs.declared.Editor.{Editor}
 use Rattle.editors.specs.declared.Owners.{Owners}
 use Rattle.ring.specs.declared.Undo.{Undo}
 use Rattle.sound.specs.declared.Accesses.{Accesses}
-use Rattle.sound.specs.Line.{channelOf}
+use Rattle.sound.specs.Line.{channelOf, soundReport}
 use Rattle.chip.specs.declared.Chip.{Chip}
 use Rattle.chip.specs.Channels.{Aside}
 use Rattle.chip.specs.Ports.{selected, dataWritten, gateWritten}
 use Rattle.chip.specs.Interrupts.{acknowledged}
 use Rattle.chip.specs.State.{withEditing}
+use Rattle.chip.specs.Step.{stepped as steppedChip, idleReport}
 use Rattle.chip.specs.Editors.{editingWith}
 use Rattle.chip.proofs.ChannelLaws.{aside-self, acknowledge-leaves}
 use Rattle.registers.specs.Address.{registerAt}
@@ -22,7 +24,7 @@ use Rattle.page.specs.UndoRecord.{entryAddress, entryContents}
 use Rattle.page.specs.Page.{pageWritten}
 use Rattle.page.specs.Undo.{newest, undone}
 use Rattle.runs.specs.World.{World, placesOf, withChip, Loan}
-use Rattle.runs.specs.Call.{Call, bc, bd, gate, read, write, undo, ack, line, start, lend, servedWorld}
+use Rattle.runs.specs.Call.{Call, bc, bd, gate, read, write, undo, ack, line, step, start, lend, report, outcome, answerTo, servedWorld}
 use Rattle.runs.specs.Sort as sort
 use Rattle.runs.specs.Sort.{sortOf}
 use Rattle.runs.proofs.ChipWidths.{beside, acknowledged-widths}
@@ -46,12 +48,18 @@ pub record Edits (w v : World) (ed : Editor) (address byte : ℕ) : Type 0 where
 abbrev pub newestOf : World → Editor → ℕ
 newestOf w ed = newest (w .chip) ed (placesOf (w .lent) ed)
 
+-- a call that steps a line, drawn or not
+pub record Lines (w : World) (c : Call) (a : Accesses) : Type 0 where
+  pub sorts : sortOf c ≡ sort.stepsLine a
+  pub tells : outcome w c .told ≡ report (served (answerTo w c) (soundReport (w .lent .ram) a (w .chip .sound)) idleReport)
+  pub next : servedWorld w c ≡ withChip w (steppedChip (w .lent .ram) (w .chip))
+
 pub data View (w : World) : Call → Type 0 where
   feeds : (b : ℕ) → Leaves w (servedWorld w (bc b)) → View w (bc b)
   writes : (ed : Editor) (a b : ℕ) → Edits w (servedWorld w (write ed a b)) ed a b → View w (write ed a b)
   undoes :
       (ed : Editor) → Edits w (servedWorld w (undo ed)) ed (entryAddress (newestOf w ed)) (entryContents (newestOf w ed)) → View w (undo ed)
-  steps : (a : Accesses) → View w (line a)
+  steps : {c : Call} (a : Accesses) → Lines w c a → View w c
   starts : (o : Owners) → View w (start o)
   lends : (l : Loan) → View w (lend l)
   plain :
@@ -81,6 +89,12 @@ acknowledge-all w =
       widths = acknowledged-widths (w .chip);
     }
 
+pub drawn-line : (w : World) (a : Accesses) (n : ℕ) → Lines w (line a n) a
+drawn-line w a n = record { sorts = refl; tells = refl; next = refl }
+
+pub stepped-line : (w : World) (a : Accesses) → Lines w (step a) a
+stepped-line w a = record { sorts = refl; tells = refl; next = refl }
+
 pub view : (w : World) (c : Call) → View w c
 unfolding selected dataWritten gateWritten acknowledged pageWritten undone
 view w (bc b) = feeds b (ports w (selected (w .chip) b) refl refl refl refl refl refl)
@@ -90,31 +104,32 @@ view w (read ed a bus) = plain refl refl (ports w (w .chip) refl refl refl refl 
 view w (write ed a b) = writes ed a b (record { undo-record = _; chip = refl })
 view w (undo ed) = undoes ed (record { undo-record = _; chip = refl })
 view w ack = plain refl refl (acknowledge-all w)
-view w (line a) = steps a
+view w (line a n) = steps a (drawn-line w a n)
+view w (step a) = steps a (stepped-line w a)
 view w (start o) = starts o
 view w (lend l) = lends l
 
--- a call is a line step or none
-pub data LineView : Call → Type 0 where
-  step : (a : Accesses) → LineView (line a)
-  other : {c : Call} → sort.lineIn (sortOf c) ≡ [] → LineView c
+-- a call steps a line or doesn't
+pub data LineView (w : World) : Call → Type 0 where
+  one : {c : Call} (a : Accesses) → Lines w c a → LineView w c
+  other : {c : Call} → sort.lineIn (sortOf c) ≡ [] → LineView w c
 
-line-of : {w : World} {c : Call} → View w c → LineView c
+line-of : {w : World} {c : Call} → View w c → LineView w c
 line-of (feeds b l) = other refl
 line-of (writes ed a b e) = other refl
 line-of (undoes ed e) = other refl
-line-of (steps a) = step a
+line-of (steps a l) = one a l
 line-of (starts o) = other refl
 line-of (lends l) = other refl
 line-of (plain s q l) = other (ap sort.lineIn s)
 
-pub line-view : (w : World) (c : Call) → LineView c
+pub line-view : (w : World) (c : Call) → LineView w c
 line-view w c = line-of (view w c)
 
 -- what holds of every call but a line step follows from what else holds of it
 pub on-line : (w : World) (P : Accesses → Type 0) (Q R : Type 0) (c : Call) → (Q → R) → sort.onLine P Q c → sort.onLine P R c
 on-line w P Q R c f x = go c (line-view w c) x
   where
-    go : (c : Call) → LineView c → sort.onLine P Q c → sort.onLine P R c
-    go c (step a) x = x
+    go : (c : Call) → LineView w c → sort.onLine P Q c → sort.onLine P R c
+    go c (one a l) x = rw (l .sorts) (rw (l .sorts) at x)
     go c (other e) x = rw e (f (rw e at x))

@@ -32,7 +32,7 @@ unfolding started
 served-widths w c (feeds b l) h k = l .widths k
 served-widths w c (writes ed a b e) h k = edit-widths e (h .1) k
 served-widths w c (undoes ed e) h k = edit-widths e (omega arith) k
-served-widths w c (steps a) h k = stepped-widths (w .lent .ram) (w .chip) k
+served-widths w c (steps a l) h k = rw (l .next) (stepped-widths (w .lent .ram) (w .chip) k)
 served-widths w c (starts o) h k = beside (w .chip) (started (w .chip) o) refl refl refl refl refl k
 served-widths w c (lends l) h k = k
 served-widths w c (plain s q l) h k = l .widths k

@@ -2,6 +2,7 @@
 use mathlib.Core.Path.{_≡_, refl}
 use mathlib.Core.List.{List}
 use Prim.Native.Nat.{ℕ}
+use lib.ListN.{length}
 use Rattle.common.specs.Answers.{served}
 use Rattle.editors.specs.declared.Editor.{Editor}
 use Rattle.sound.specs.declared.Accesses.{Accesses}
@@ -11,7 +12,8 @@ use Rattle.chip.specs.declared.Acknowledged.{Acknowledged}
 use Rattle.chip.specs.declared.Stepped.{Stepped}
 use Rattle.chip.specs.Contracts.{Answers}
 use Rattle.chip.specs.Interrupts.{acknowledged, Acknowledges}
-use Rattle.chip.specs.Step.{stepped, Steps}
+use Rattle.chip.specs.Step.{stepped}
+use Rattle.line.specs.Contract.{Shows}
 use Rattle.registers.specs.Address.{registerAt}
 use Rattle.registers.specs.Registers.{storeWritten}
 use Rattle.page.specs.Page.{pageWritten, placesAfter, Writes}
@@ -30,9 +32,11 @@ module _ (w : World) where
   pub acknowledging : {r : Acknowledged} → Acknowledges (w .chip) r → withChip w (r .chip) ≡ worldAfter w ack
   acknowledging k = rw (k .chip) (chip-served (answerTo w ack) w (acknowledged (w .chip)))
 
-  pub stepping :
-      {a : Accesses} {r : Stepped} → Steps (w .chip) (w .lent .ram) a r → withChip w (r .chip) ≡ worldAfter w (line a)
-  stepping {a} k = rw (k .chip) (chip-served (answerTo w (line a)) w (stepped (w .lent .ram) (w .chip)))
+  pub showing :
+      {line-before line-after : List ℕ} {a : Accesses} {r : Stepped} → Shows (w .chip) (w .lent .ram) (w .lent .store) a line-before line-after r →
+      withChip w (r .chip) ≡ worldAfter w (line a (length line-before))
+  showing {line-before} {a = a} k =
+      rw (k .steps .chip) (chip-served (answerTo w (line a (length line-before))) w (stepped (w .lent .ram) (w .chip)))
 
   pub writing :
       (e : Editor) {store' places' : List ℕ} {a b : ℕ} {r : Answered} →

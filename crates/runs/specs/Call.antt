@@ -12,6 +12,7 @@ use Rattle.chip.specs.Editors.{started}
 use Rattle.chip.specs.Ports.{selected, dataAnswer, dataWritten, gateAnswer, gateWritten}
 use Rattle.chip.specs.Interrupts.{acknowledgeAnswer, acknowledged, vectorOn}
 use Rattle.chip.specs.Step.{stepAnswer, stepped, idleReport}
+use Rattle.line.specs.Contract.{lineAnswer}
 use Rattle.registers.specs.Address.{registerAt}
 use Rattle.registers.specs.Registers.{registerRead, storeWritten}
 use Rattle.page.specs.Page.{readAnswer, writeAnswer, pageWritten, placesAfter}
@@ -19,8 +20,10 @@ use Rattle.page.specs.Undo.{undoAnswer, newest, undone, storeUndone}
 use Rattle.runs.specs.World.{World, placesOf, withChip, edited, Loan, lentBy}
 
 -- the byte of a port write; the editor, the address and the bus byte of a page read; the editor, the address and the byte of a page
--- write; the editor of an undo; what the processor does at the 8255 on a line; the owners that a start gives. The buffers are those of
--- the world. `lend` is no call of the chip: the host lends another buffer from here on
+-- write; the editor of an undo; what the processor does at the 8255 on a line, and the length of the buffer that the line is drawn into;
+-- the owners that a start gives. The other buffers are those of the world. `step` is the core's line step, which draws nothing: no host
+-- calls it, but a replay is made of such, so that a chip which it hands out is reached too. `lend` is no call of the chip: the host lends
+-- another buffer from here on
 pub data Call : Type 0 where
   bc : ℕ → Call
   bd : ℕ → Call
@@ -29,7 +32,8 @@ pub data Call : Type 0 where
   write : Editor → ℕ → ℕ → Call
   undo : Editor → Call
   ack : Call
-  line : Accesses → Call
+  line : Accesses → ℕ → Call
+  step : Accesses → Call
   start : Owners → Call
   lend : Loan → Call
 
@@ -57,6 +61,15 @@ pub record Outcome : Type 0 where
 abbrev pub chipOnly : World → ℕ → Chip → Outcome
 chipOnly w answer c = record { answer = answer; told = nothing; next = withChip w c }
 
+-- a call that steps a line, where it has this answer, and tells the report
+abbrev pub lineBy : World → ℕ → Accesses → Outcome
+lineBy w number a =
+    record {
+      answer = number;
+      told = report (served number (soundReport (w .lent .ram) a (w .chip .sound)) idleReport);
+      next = withChip w (stepped (w .lent .ram) (w .chip));
+    }
+
 abbrev pub outcome : World → Call → Outcome
 outcome w (bc b) = chipOnly w done (selected (w .chip) b)
 outcome w (bd b) = chipOnly w (dataAnswer (w .chip)) (dataWritten (w .chip) b)
@@ -82,13 +95,8 @@ outcome w (undo e) =
 outcome w ack =
     let number = acknowledgeAnswer (w .chip) in
     record { answer = number; told = vector (served number (vectorOn (w .chip)) 0); next = withChip w (acknowledged (w .chip)) }
-outcome w (line a) =
-    let number = stepAnswer (w .lent .ram) in
-    record {
-      answer = number;
-      told = report (served number (soundReport (w .lent .ram) a (w .chip .sound)) idleReport);
-      next = withChip w (stepped (w .lent .ram) (w .chip));
-    }
+outcome w (line a n) = lineBy w (lineAnswer (w .chip) (w .lent .ram) (w .lent .store) n) a
+outcome w (step a) = lineBy w (stepAnswer (w .lent .ram)) a
 outcome w (start o) = chipOnly w done (started (w .chip) o)
 outcome w (lend l) = record { answer = done; told = nothing; next = record { chip = w .chip; lent = lentBy l (w .lent) } }
 
@@ -114,6 +122,7 @@ Typed (read e a bus) = (a < 65536) × (bus < 256)
 Typed (write e a b) = (a < 65536) × (b < 256)
 Typed (undo e) = Unit {0}
 Typed ack = Unit {0}
-Typed (line a) = Unit {0}
+Typed (line a n) = Unit {0}
+Typed (step a) = Unit {0}
 Typed (start o) = Unit {0}
 Typed (lend l) = Unit {0}

@@ -4,6 +4,7 @@ use mathlib.Core.List.{List, [], _∷_, map}
 use Prim.Native.Nat.{ℕ}
 use contract.Lifetimes.{Lfts}
 use denote.Ref.{RefT, now, at-last}
+use lib.ListN.{length}
 use Rattle.common.specs.Answers.{done}
 use Rattle.editors.specs.declared.Editor.{Editor}
 use Rattle.editors.specs.declared.Owners.{Owners}
@@ -16,7 +17,8 @@ use Rattle.chip.proofs.ports.write_bc.Reads as write-bc
 use Rattle.chip.proofs.ports.write_bd.Reads as write-bd
 use Rattle.chip.proofs.ports.write_7f.Reads as write-7f
 use Rattle.chip.proofs.acknowledge.acknowledge.Reads as acknowledge
-use Rattle.chip.proofs.line.step.Reads as step
+use Rattle.chip.proofs.line.step.Reads as chip-step
+use Rattle.line.proofs.line.Reads as line-shown
 use Rattle.chip.proofs.table.start.Reads as table-start
 use Rattle.page.proofs.page_read.Reads as page-read
 use Rattle.page.proofs.page_write.Reads as page-write
@@ -58,9 +60,14 @@ pub data Makes (w : World) : Call → Reply → World → Type 0 where
       (r : Acknowledged) → acknowledge.Learnt tt (w .chip, tt) r (w .chip, tt) →
       Makes w call.ack (record { answer = r .answer; told = vector (r .vector) }) (withChip w (r .chip))
   line :
+      (κs : Lfts 3) (ram store line : RefT (List ℕ)) (line' : List ℕ) (a : Accesses) (n : ℕ) (r : Stepped) →
+      now ram ≡ w .lent .ram → now store ≡ w .lent .store → length (now line) ≡ n →
+      line-shown.Learnt κs (w .chip, (ram, (store, (line, (a, tt))))) r (w .chip, (ram, (store, (at-last line line', (a, tt))))) →
+      Makes w (call.line a n) (record { answer = r .answer; told = report (r .report) }) (withChip w (r .chip))
+  step :
       (κs : Lfts 1) (ram : RefT (List ℕ)) (a : Accesses) (r : Stepped) → now ram ≡ w .lent .ram →
-      step.Learnt κs (w .chip, (ram, (a, tt))) r (w .chip, (ram, (a, tt))) →
-      Makes w (call.line a) (record { answer = r .answer; told = report (r .report) }) (withChip w (r .chip))
+      chip-step.Learnt κs (w .chip, (ram, (a, tt))) r (w .chip, (ram, (a, tt))) →
+      Makes w (call.step a) (record { answer = r .answer; told = report (r .report) }) (withChip w (r .chip))
   start :
       (o : Owners) (r : Answered) → table-start.Learnt tt (w .chip, (o, tt)) r (w .chip, (o, tt)) →
       Makes w (call.start o) (number (r .answer)) (withChip w (r .chip))

@@ -5,7 +5,7 @@ use Rattle.editors.specs.declared.Editor.{Editor}
 use Rattle.editors.specs.declared.Owners.{Owners}
 use Rattle.sound.specs.declared.Accesses.{Accesses}
 use Rattle.runs.specs.World.{Loan}
-use Rattle.runs.specs.Call.{Call, bc, bd, gate, read, write, undo, ack, line, start, lend}
+use Rattle.runs.specs.Call.{Call, bc, bd, gate, read, write, undo, ack, line, step, start, lend}
 
 -- it feeds the lock a byte; writes a byte to an address of the page; takes a write back; steps a line; starts with a table; lends
 -- another buffer; or, plain, does none of these
@@ -26,7 +26,8 @@ sortOf (read e a bus) = plain
 sortOf (write e a b) = writes e a b
 sortOf (undo e) = undoes e
 sortOf ack = plain
-sortOf (line a) = stepsLine a
+sortOf (line a n) = stepsLine a
+sortOf (step a) = stepsLine a
 sortOf (start o) = starts o
 sortOf (lend l) = lends l
 

@@ -1,16 +1,21 @@
 -- Laws of a drawn line as text.
-use mathlib.Core.Path.{_≡_, refl, sym, _∙_}
-use mathlib.Core.List.{List, _∷_, _++_, append-assoc, append-nil}
+use mathlib.Core.Path.{_≡_, refl}
+use mathlib.Core.Bool.{Bool, true, false}
+use mathlib.Core.List.{List, [], _∷_, _++_, append-assoc, append-nil}
 use Prim.Native.Nat.{ℕ, zero, suc, _+_, _<_}
 use native.Mathlib.Nat.{add-zero}
 use native.Mathlib.Numerals.{add-one}
 use native.Mathlib.Omega.{arith}
-use borrow.Author.Tests.{eq-eqb, ne-eqb}
-use lib.ListN.{length, take, set, getD, length-append}
+use borrow.Author.Tests.{eqb-true, eq-eqb, ne-eqb}
+use lib.Dec.{eqb}
+use lib.ListN.{length, take, set, length-append}
 use lib.Seq.{take-suc-set}
-use Rattle.chip.specs.declared.Chip.{Chip}
-use Rattle.draw.specs.Drawing.{drawAnswer, entryAt, Draws}
+use Rattle.common.specs.Answers.{done}
+use Rattle.common.specs.Choice.{if}
+use Rattle.common.specs.Sizes.{lineBytes}
+use Rattle.sound.specs.declared.Report.{Report}
 use Rattle.text.specs.Text.{numeral, lineEnd, Appends}
+use Rattle.text.specs.Lines.{reportText}
 use Rattle.text.specs.Paint.{character, characters, paintedLine}
 
 -- there are as many characters as positions
@@ -53,28 +58,30 @@ entries-all f before out at n i e h =
     let whole : characters f i ≡ characters f n = rw e in
     record { place = simp (characters-length, e); shown = rw whole at h }
 
-module _ {c : Chip} {ram store before line : List ℕ} {r : ℕ} (d : Draws c ram store before line r) (size : length before ≡ 640) where
-  answered : drawAnswer c (length ram) (length store) 640 ≡ r
-  answered = sym (rw size at (d .answer))
-
+module _ (answer : ℕ) (entry : ℕ → ℕ) (report : Report) {out out' : List ℕ} {at next : ℕ} where
   -- a refusal is only its number
   pub refused-line :
-      {out out' : List ℕ} {at next : ℕ} →
-      (r ≡ 0 → ⊥) →
-      Appends out at (numeral r ++ lineEnd) out' next →
-      Appends out at (paintedLine c ram store) out' next
+      (answer ≡ done → ⊥) → Appends out at (numeral answer ++ lineEnd) out' next → Appends out at (paintedLine answer entry report) out' next
   unfolding paintedLine
-  refused-line h p = simp (answered, ne-eqb r 0 h, append-nil) p
+  refused-line h p = simp (ne-eqb answer done h, append-nil) p
 
-  -- a line that is drawn
-  pub drawn-line :
-      {out out' : List ℕ} {at next : ℕ} →
-      r ≡ 0 →
-      Appends out at (numeral r ++ 32 ∷ characters (λ (x : ℕ). getD line x 0) (length line) ++ lineEnd) out' next →
-      Appends out at (paintedLine c ram store) out' next
+  -- a line that is shown
+  pub shown-line :
+      answer ≡ done → Appends out at (numeral answer ++ (32 ∷ characters entry lineBytes ++ reportText report) ++ lineEnd) out' next →
+      Appends out at (paintedLine answer entry report) out' next
   unfolding paintedLine
-  drawn-line z p =
-      let long : length line ≡ 640 = d .size ∙ size in
-      let same : characters (entryAt c ram store) 640 ≡ characters (λ (x : ℕ). getD line x 0) (length line) =
-      rw long (sym (characters-same (λ (x : ℕ). getD line x 0) (entryAt c ram store) 640 (d .drawn z))) in
-      simp (answered, eq-eqb r 0 z, same) p
+  shown-line z p = simp (eq-eqb answer done z) p
+
+-- the same line, if entries and report agree where it is served
+pub painted-same :
+    (answer : ℕ) (f g : ℕ → ℕ) (r s : Report) → (answer ≡ done → (x : ℕ) → x < lineBytes → f x ≡ g x) → (answer ≡ done → r ≡ s) →
+    paintedLine answer f r ≡ paintedLine answer g s
+unfolding paintedLine
+painted-same answer f g r s same told = by-test (eqb answer done) refl
+  where
+    by-test :
+        (t : Bool) → eqb answer done ≡ t →
+        numeral answer ++ if t (32 ∷ characters f lineBytes ++ reportText r) [] ++ lineEnd ≡
+        numeral answer ++ if t (32 ∷ characters g lineBytes ++ reportText s) [] ++ lineEnd
+    by-test true e = rw (characters-same f g lineBytes (same (eqb-true _ _ e)), told (eqb-true _ _ e))
+    by-test false e = refl

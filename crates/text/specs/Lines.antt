@@ -13,12 +13,14 @@ oneLine a = numeral a ++ lineEnd
 abbrev pub twoLine : ℕ → ℕ → List ℕ
 twoLine a b = numeral a ++ spacedNumeral b ++ lineEnd
 
--- a line step: the answer, the cycles, and what each of the three channels did
+-- a line's report: the cycles, and what each of the three channels did
+abbrev pub reportText : Report → List ℕ
+reportText r =
+    spacedNumeral (r .cycles) ++ didText (didOf (r .entries) 0) ++ didText (didOf (r .entries) 1) ++ didText (didOf (r .entries) 2)
+
+-- a line that was stepped: the answer and the report
 abbrev pub stepLine : ℕ → Report → List ℕ
-stepLine a r =
-    numeral a ++ spacedNumeral (r .cycles) ++ didText (didOf (r .entries) 0) ++ didText (didOf (r .entries) 1) ++
-    didText (didOf (r .entries) 2) ++
-    lineEnd
+stepLine a r = numeral a ++ reportText r ++ lineEnd
 
 -- a forecast: the answer, lines, least cycles, the bytes of the list, and most cycles
 abbrev pub forecastLine : ℕ → ℕ → ℕ → ℕ → ℕ → List ℕ

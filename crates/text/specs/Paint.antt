@@ -1,12 +1,13 @@
--- The line of a record that draws.
+-- The line of a record that shows a line.
 use mathlib.Core.List.{List, [], _∷_, _++_}
 use Prim.Native.Nat.{ℕ, zero, suc, _+_}
 use lib.Dec.{eqb, ltb}
-use lib.ListN.{length}
+use Rattle.common.specs.Answers.{done}
 use Rattle.common.specs.Choice.{if}
-use Rattle.chip.specs.declared.Chip.{Chip}
-use Rattle.draw.specs.Drawing.{drawAnswer, entryAt}
+use Rattle.common.specs.Sizes.{lineBytes}
+use Rattle.sound.specs.declared.Report.{Report}
 use Rattle.text.specs.Text.{numeral, lineEnd}
+use Rattle.text.specs.Lines.{reportText}
 
 -- the character of a palette entry: 0-9, then a-v; a question mark for a number that is none
 abbrev pub character : ℕ → ℕ
@@ -17,9 +18,6 @@ unfoldable pub characters : (ℕ → ℕ) → ℕ → List ℕ
 characters entry zero = []
 characters entry (suc n) = characters entry n ++ character (entry n) ∷ []
 
--- the answer, and if it is 0 the 640 entries
-unfoldable pub paintedLine : Chip → List ℕ → List ℕ → List ℕ
-paintedLine c ram store =
-    numeral (drawAnswer c (length ram) (length store) 640) ++
-    if (eqb (drawAnswer c (length ram) (length store) 640) 0) (32 ∷ characters (entryAt c ram store) 640) [] ++
-    lineEnd
+-- the answer, and if it is 0 the 640 entries and the report
+unfoldable pub paintedLine : ℕ → (ℕ → ℕ) → Report → List ℕ
+paintedLine answer entry r = numeral answer ++ if (eqb answer done) (32 ∷ characters entry lineBytes ++ reportText r) [] ++ lineEnd

@@ -4,7 +4,7 @@ use sound::Report;
 ghost use Prim.Native.Nat.{_+_, _≤_};
 ghost use lib.ListN.{length};
 ghost use Rattle.text.specs.Text.{Appends};
-ghost use Rattle.text.specs.Lines.{oneLine, twoLine, stepLine, forecastLine, badLine, shortLine};
+ghost use Rattle.text.specs.Lines.{oneLine, twoLine, reportText, stepLine, forecastLine, badLine, shortLine};
 
 // One number.
 pub fn one(out: &mut [u8], at: usize, answer: u8) -> usize
@@ -27,11 +27,11 @@ pub fn two(out: &mut [u8], at: usize, answer: u8, byte: u8) -> usize
     crate::ended(out, last)
 }
 
-// A line step: the answer, the cycles and the three channels.
-pub fn stepped(out: &mut [u8], at: usize, answer: u8, report: Report) -> usize
-    requires { ⌜ at + 129 ≤ length (now out) ⌝ }
-    ensures { λ r. ⌜ Appends (now (out .entry)) at (stepLine answer report) (now (out .exit)) r ⌝ }
-    ensures { λ r. ⌜ r ≤ at + 129 ⌝ }
+// A report: the cycles and the three channels.
+pub fn reported(out: &mut [u8], at: usize, report: Report) -> usize
+    requires { ⌜ at + 108 ≤ length (now out) ⌝ }
+    ensures { λ r. ⌜ Appends (now (out .entry)) at (reportText report) (now (out .exit)) r ⌝ }
+    ensures { λ r. ⌜ r ≤ at + 108 ⌝ }
 {
     let entries = report.entries;
     let zero = entries[0];
@@ -40,12 +40,21 @@ pub fn stepped(out: &mut [u8], at: usize, answer: u8, report: Report) -> usize
     let did_zero = zero.did;
     let did_one = one.did;
     let did_two = two.did;
-    let a = crate::number(out, at, answer as u64);
-    let b = crate::spaced(out, a, report.cycles as u64);
-    let c = crate::did(out, b, did_zero);
-    let d = crate::did(out, c, did_one);
-    let e = crate::did(out, d, did_two);
-    crate::ended(out, e)
+    let a = crate::spaced(out, at, report.cycles as u64);
+    let b = crate::did(out, a, did_zero);
+    let c = crate::did(out, b, did_one);
+    crate::did(out, c, did_two)
+}
+
+// A line that was stepped: the answer and the report.
+pub fn stepped(out: &mut [u8], at: usize, answer: u8, report: Report) -> usize
+    requires { ⌜ at + 129 ≤ length (now out) ⌝ }
+    ensures { λ r. ⌜ Appends (now (out .entry)) at (stepLine answer report) (now (out .exit)) r ⌝ }
+    ensures { λ r. ⌜ r ≤ at + 129 ⌝ }
+{
+    let next = crate::number(out, at, answer as u64);
+    let last = reported(out, next, report);
+    crate::ended(out, last)
 }
 
 // A forecast: the answer, lines, least cycles, how many bytes the list takes, and most cycles.

@@ -1,6 +1,7 @@
-// The current line as text.
-use chip::Chip;
+// A line as text.
+use crate::lines;
 use common::answer::DONE;
+use sound::Report;
 ghost use mathlib.Core.Path.{_≡_};
 ghost use Prim.Native.Nat.{_+_, _≤_};
 ghost use lib.ListN.{length, getD};
@@ -20,33 +21,32 @@ pub fn character(entry: u8) -> u8
     63
 }
 
-// The characters of a line of entries.
+// The characters of 640 entries.
 fn put_entries(out: &mut [u8], at: usize, line: &[u8]) -> usize
-    requires { ⌜ at + length (now line) ≤ length (now out) ⌝ }
-    ensures { λ r. ⌜ Appends (now (out .entry)) at (characters (λ x. getD (now (line .entry)) x 0) (length (now (line .entry)))) (now (out .exit)) r ⌝ }
-    ensures { λ r. ⌜ r ≡ at + length (now (line .entry)) ⌝ }
+    requires { ⌜ at + 640 ≤ length (now out) ⌝ }
+    ensures { λ r. ⌜ Appends (now (out .entry)) at (characters (λ x. getD (now (line .entry)) x 0) 640) (now (out .exit)) r ⌝ }
+    ensures { λ r. ⌜ r ≡ at + 640 ⌝ }
 {
     let mut i = 0;
-    while i < line.len() {
-        out[at + i] = character(line[i]);
+    while i < 640 {
+        out[at + i] = character(common::byte_at(line, i));
         i += 1;
     }
     at + i
 }
 
-// The line of a record that draws.
-pub fn painted(chip: Chip, ram: &[u8], store: &[u8], out: &mut [u8], at: usize) -> usize
-    requires { ⌜ at + 662 ≤ length (now out) ⌝ }
-    ensures { λ r. ⌜ Appends (now (out .entry)) at (paintedLine chip (now (ram .entry)) (now (store .entry))) (now (out .exit)) r ⌝ }
-    ensures { λ r. ⌜ r ≤ at + 662 ⌝ }
+// The line of a record that shows a line: the answer, and if it was served the entries and the report.
+pub fn painted(out: &mut [u8], at: usize, answer: u8, line: &[u8], report: Report) -> usize
+    requires { ⌜ at + 770 ≤ length (now out) ⌝ }
+    ensures { λ r. ⌜ Appends (now (out .entry)) at (paintedLine answer (λ x. getD (now (line .entry)) x 0) report) (now (out .exit)) r ⌝ }
+    ensures { λ r. ⌜ r ≤ at + 770 ⌝ }
 {
-    let mut line = [0u8; 640];
-    let answer = draw::draw(chip, ram, store, &mut line);
     let next = crate::number(out, at, answer as u64);
     if answer != DONE {
         return crate::ended(out, next);
     }
     let first = crate::put(out, next, b" ");
-    let last = put_entries(out, first, &line);
+    let end = put_entries(out, first, line);
+    let last = lines::reported(out, end, report);
     crate::ended(out, last)
 }

@@ -9,44 +9,36 @@ const LONGEST: usize = 128 * 32 + 31;
 /// Rows of pixels, three bytes each: red, green, blue.
 pub type Rows = Vec<Vec<u8>>;
 
-/// Steps on to the next frame's first line, and draws that frame. The number
-/// that drawing answered, if it was refused.
+/// The whole frame after this one, each position in its colour. The number that a
+/// line answered, if it was refused.
 pub fn next_frame(player: &mut Player) -> Result<Rows, Answer> {
+    let mut entries = [0; LINE];
     // A row can be past its last line, which takes a wrap of 32 lines more.
     for _ in 0..32 + LONGEST {
-        if step(player) {
+        if line(player, &mut entries)? {
             break;
         }
     }
     let mut rows = Rows::new();
     for _ in 0..LONGEST {
-        rows.push(row(player)?);
-        if step(player) {
+        let ended = line(player, &mut entries)?;
+        rows.push(entries.iter().flat_map(|&e| colour(player, e)).collect());
+        if ended {
             break;
         }
     }
     Ok(rows)
 }
 
-/// One line step. Whether it ended the frame: VC and RC also wrap to 0, which
-/// ends none.
-fn step(player: &mut Player) -> bool {
+/// One line, drawn and stepped. Whether it ended the frame: VC and RC also wrap to 0,
+/// which ends none.
+fn line(player: &mut Player, entries: &mut [u8; LINE]) -> Result<bool, Answer> {
     let before = player.chip.crtc;
-    let (answer, _) = player.chip.step(&player.ram, [Access::Off; 3]);
-    debug_assert_eq!(answer, Answer::Done);
+    player.line(entries, [Access::Off; 3]).0.served()?;
     let (old, new) = (before.counters, player.chip.crtc.counters);
     let last_row = old.vc == before.registers.r4 && old.rc == before.registers.r9;
     let first_line = (new.vc, new.rc, new.adjust) == (0, 0, false);
-    first_line && (old.adjust || last_row)
-}
-
-/// The current line, each position in its colour.
-fn row(player: &Player) -> Result<Vec<u8>, Answer> {
-    let mut entries = [0; LINE];
-    match player.chip.draw(&player.ram, &player.store, &mut entries) {
-        Answer::Done => Ok(entries.iter().flat_map(|&e| colour(player, e)).collect()),
-        refusal => Err(refusal),
-    }
+    Ok(first_line && (old.adjust || last_row))
 }
 
 /// A palette entry's red, green and blue, 4 bits each made 8.

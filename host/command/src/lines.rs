@@ -12,10 +12,16 @@ impl fmt::Display for Outcome {
         match self {
             Outcome::Answer(answer) => write!(f, "{}", answer.number()),
             Outcome::Byte(answer, byte) => write!(f, "{} {byte}", answer.number()),
-            Outcome::Line(answer, report) => stepped(f, *answer, report),
-            Outcome::Drawn(Answer::Done, line) => drawn(f, &line[..]),
+            Outcome::Line(answer, report) => {
+                write!(f, "{} ", answer.number())?;
+                reported(f, report)
+            }
+            Outcome::Shown(Answer::Done, line, report) => {
+                drawn(f, &line[..])?;
+                reported(f, report)
+            }
             Outcome::Exported(Answer::Done, out) => exported(f, &out[..]),
-            Outcome::Drawn(answer, _) | Outcome::Exported(answer, _) => {
+            Outcome::Shown(answer, ..) | Outcome::Exported(answer, _) => {
                 write!(f, "{}", answer.number())
             }
             Outcome::Forecast(told) => forecast(f, told),
@@ -24,10 +30,9 @@ impl fmt::Display for Outcome {
     }
 }
 
-/// The answer, the cycles, and for each channel a dash or the kind and low 12
-/// bits of its word.
-fn stepped(f: &mut fmt::Formatter, answer: Answer, report: &Report) -> fmt::Result {
-    write!(f, "{} {}", answer.number(), report.cycles)?;
+/// The cycles, and for each channel a dash or the kind and low 12 bits of its word.
+fn reported(f: &mut fmt::Formatter, report: &Report) -> fmt::Result {
+    write!(f, "{}", report.cycles)?;
     for (&kind, low) in report.kinds.iter().zip(report.lows) {
         match kind {
             kind::SAT_OUT => f.write_str(" -")?,
@@ -47,11 +52,12 @@ fn name_of(kind: u8) -> &'static str {
     }
 }
 
-/// A character for each palette entry: 0 to 9, then a to v.
+/// The answer, a character for each palette entry, 0 to 9 and then a to v, and a
+/// blank.
 fn drawn(f: &mut fmt::Formatter, line: &[u8]) -> fmt::Result {
     let character = |&entry: &u8| char::from_digit(entry.into(), 32).unwrap_or('?');
     let text: String = line.iter().map(character).collect();
-    write!(f, "{} {text}", Answer::Done.number())
+    write!(f, "{} {text} ", Answer::Done.number())
 }
 
 /// The answer, and the bytes.

@@ -22,10 +22,10 @@ pub enum Outcome {
     Answer(Answer),
     /// An answer, and the byte read or the vector.
     Byte(Answer, u8),
-    /// A line step.
+    /// A line, of which the report alone is told.
     Line(Answer, Report),
-    /// A drawn line.
-    Drawn(Answer, Box<[u8; LINE]>),
+    /// A line that is shown, with its report.
+    Shown(Answer, Box<[u8; LINE]>, Report),
     /// An export.
     Exported(Answer, Box<[u8; EXPORT]>),
     /// A forecast.
@@ -62,8 +62,8 @@ impl Player {
             b'S' => self.start(),
             b'E' => self.export(),
             b'A' => self.acknowledge(),
-            b'L' => self.step(value),
-            b'P' => self.draw(),
+            b'L' => self.passed(value),
+            b'P' => self.shown(value),
             b'F' => Outcome::Forecast(plus::forecast(&self.ram, address, value)),
             b'M' => self.poke(address, value),
             b'Z' => self.reset(),
@@ -111,18 +111,20 @@ impl Player {
         Outcome::Byte(answer, vector)
     }
 
-    /// A line, with what the processor does at the 8255: two bits for each
-    /// channel, the lowest two for channel 0.
-    fn step(&mut self, value: u8) -> Outcome {
-        let accesses = [0, 2, 4].map(|place| Access::from(value >> place & 3));
-        let (answer, report) = self.chip.step(&self.ram, accesses);
+    /// The line's call, with what the processor does at the 8255.
+    pub fn line(&mut self, line: &mut [u8], accesses: [Access; 3]) -> (Answer, Report) {
+        self.chip.line(&self.ram, &self.store, line, accesses)
+    }
+
+    fn passed(&mut self, value: u8) -> Outcome {
+        let (answer, report) = self.line(&mut [0; LINE], accesses_in(value));
         Outcome::Line(answer, report)
     }
 
-    fn draw(&mut self) -> Outcome {
+    fn shown(&mut self, value: u8) -> Outcome {
         let mut line = Box::new([0; LINE]);
-        let answer = self.chip.draw(&self.ram, &self.store, &mut line[..]);
-        Outcome::Drawn(answer, line)
+        let (answer, report) = self.line(&mut line[..], accesses_in(value));
+        Outcome::Shown(answer, line, report)
     }
 
     /// A byte of RAM.
@@ -136,4 +138,9 @@ impl Player {
         self.waiting = [0; WAITING];
         Outcome::Answer(Answer::Done)
     }
+}
+
+/// What the processor does, two bits for each channel, the lowest two for channel 0.
+fn accesses_in(value: u8) -> [Access; 3] {
+    [0, 2, 4].map(|place| Access::from(value >> place & 3))
 }

@@ -1,8 +1,9 @@
 //! A take's calls made one by one on any machine.
 
 use crate::machine::{Machine, Replay};
+use crate::under_test::UnderTest;
 use plus::take::{kind, Record, COUNTS};
-use plus::{Access, Answer, Editor, Table};
+use plus::{Answer, Editor, Table};
 
 /// A machine from reset, the buffers that it is lent, and what a replay counts.
 pub struct ByHand<'a, M> {
@@ -27,11 +28,11 @@ impl<'a, M: Machine> ByHand<'a, M> {
         }
     }
 
-    /// Steps lines until there are as many. The processor is off the 8255.
+    /// Steps lines until there are as many, in any mode. The processor is off the
+    /// 8255, and what is drawn goes nowhere.
     pub fn step_to(&mut self, line: u32) {
         while self.lines < line {
-            let (answer, _) = self.chip.step(self.ram, [Access::Off; 3]);
-            assert_eq!(answer, Answer::Done);
+            self.chip.step_in_any_mode(self.ram);
             self.lines += 1;
         }
     }

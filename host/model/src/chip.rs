@@ -197,7 +197,7 @@ pub enum Access {
     PsgWrite,
 }
 
-/// What a line step tells.
+/// What a line tells.
 #[derive(Clone, Copy, Debug, PartialEq, Eq)]
 pub struct Report {
     pub cycles: u8,

@@ -4,6 +4,7 @@
 
 mod call;
 mod differ;
+pub mod line;
 pub mod listing;
 pub mod mend;
 mod phrases;
@@ -15,7 +16,7 @@ pub use call::{Buffers, Call, Reply};
 pub use script::Script;
 
 use crate::machine::Machine;
-use plus::{kind, Chip, Editing, Undo, PLACES};
+use plus::{kind, Chip, Editing, State, Undo, PLACES};
 use std::fmt;
 
 /// How often each call gave each answer number; `Call::NAMES` names the rows.
@@ -40,7 +41,7 @@ impl Tally {
             self.calls += 1;
             self.answers[row][reply.number() as usize] += 1;
         }
-        if let (Call::Step { accesses, .. }, Reply::Line(_, report)) = (call, reply) {
+        if let (Call::Line { accesses, .. }, Reply::Line(_, report)) = (call, reply) {
             for (access, reported) in accesses.into_iter().zip(report.kinds) {
                 self.loads[access as usize] += u64::from(reported == kind::LOAD);
             }
@@ -92,30 +93,74 @@ pub fn compare<M: Machine>(count: u64, seed: u64) -> Result<Tally, Box<Differenc
     Ok(tally)
 }
 
+/// The core and another machine, each with what it is lent.
+struct Two<M> {
+    core: Chip,
+    core_lent: Buffers,
+    other: M,
+    other_lent: Buffers,
+}
+
+impl<M: Machine> Two<M> {
+    /// Both from reset.
+    fn new(lent: &Buffers) -> Two<M> {
+        Two {
+            core: Chip::new(),
+            core_lent: lent.clone(),
+            other: M::new(),
+            other_lent: lent.clone(),
+        }
+    }
+
+    /// Puts both into a state.
+    fn put(&mut self, state: State) {
+        self.core.put(state);
+        self.other.put(state);
+    }
+
+    /// A call on both: what both have replied, or how they differ in that, or after it.
+    /// What they are lent is not looked at.
+    fn make(&mut self, call: Call) -> Result<Reply, String> {
+        let reply = call.make(&mut self.core, &mut self.core_lent);
+        let expected = call.make(&mut self.other, &mut self.other_lent);
+        if reply != expected {
+            return Err(format!("core answers {reply:02X?}, not {expected:02X?}"));
+        }
+        match differ::machines(&self.core, &self.other) {
+            Some(how) => Err(how),
+            None => Ok(reply),
+        }
+    }
+
+    /// The same, with what they are lent.
+    fn make_whole(&mut self, call: Call) -> Result<Reply, String> {
+        let reply = self.make(call)?;
+        match self.core_lent == self.other_lent {
+            true => Ok(reply),
+            false => Err(self.first_byte()),
+        }
+    }
+
+    /// The first lent byte that differs.
+    fn first_byte(&self) -> String {
+        differ::first_byte(&self.core_lent, &self.other_lent)
+    }
+}
+
 /// The first call after which the two differ, and how.
 fn run<M: Machine>(script: &Script, calls: &[Call], tally: &mut Tally) -> Option<(usize, String)> {
-    let (mut core, mut core_lent) = (Chip::new(), script.lent.clone());
-    let (mut other, mut other_lent) = (M::new(), script.lent.clone());
+    let mut two = Two::<M>::new(&script.lent);
     if let Some(start) = script.start {
-        core.put(start);
-        other.put(start);
+        two.put(start);
     }
     for (n, &call) in calls.iter().enumerate() {
-        let before = core.editing;
-        let reply = call.make(&mut core, &mut core_lent);
-        let expected = call.make(&mut other, &mut other_lent);
+        let before = two.core.editing;
+        let reply = match two.make_whole(call) {
+            Ok(reply) => reply,
+            Err(how) => return Some((n, how)),
+        };
         tally.add(call, reply);
-        tally.add_editing(before, core.editing);
-        if reply != expected {
-            let how = format!("core answers {reply:02X?}, not {expected:02X?}");
-            return Some((n, how));
-        }
-        if let Some(how) = differ::machines(&core, &other) {
-            return Some((n, how));
-        }
-        if core_lent != other_lent {
-            return Some((n, differ::first_byte(&core_lent, &other_lent)));
-        }
+        tally.add_editing(before, two.core.editing);
     }
     None
 }

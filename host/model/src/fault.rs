@@ -1,10 +1,12 @@
 //! Cores that go wrong in one rule each, to see that tests fail on them. The
 //! readings that document 01 has seen go astray are among them.
 
-use plus::{Answer, Chip, Editor};
+use lent::Lent;
+use plus::{Answer, Chip, Editor, Report};
 
 type Read = fn(&mut Chip, Editor, &[u8], u16, u8) -> (Answer, u8);
 type Write = fn(&mut Chip, Editor, &mut [u8], u16, u8) -> Answer;
+type Line = fn(&mut Chip, &mut Lent) -> (Answer, Report);
 
 /// A fault of the page read: the read in its place.
 macro_rules! reads {
@@ -48,10 +50,32 @@ macro_rules! writes {
     )+};
 }
 
+/// A fault of the line's call: the call in its place.
+macro_rules! lines {
+    ($($(#[$about:meta])* $fault:ident: $line:expr;)+) => {$(
+        $(#[$about])*
+        pub struct $fault;
+
+        impl $crate::machine::Fault for $fault {
+            fn line(
+                chip: &mut plus::Chip,
+                ram: &[u8],
+                store: &[u8],
+                line: &mut [u8],
+                accesses: [plus::Access; 3],
+            ) -> (plus::Answer, plus::Report) {
+                let call: $crate::fault::Line = $line;
+                call(chip, &mut $crate::fault::Lent { ram, store, line, accesses })
+            }
+        }
+    )+};
+}
+
 mod drawing;
 mod editors;
 mod export;
 mod interrupts;
+mod lent;
 mod line;
 mod listing;
 mod mend;
@@ -63,7 +87,9 @@ mod sound;
 mod take;
 mod undo;
 
-pub use drawing::{HighestSpriteFirst, ModeThreeDrawn, ScrollOf3Bits};
+pub use drawing::{
+    DrawnThoughRefused, HighestSpriteFirst, ModeThreeDrawn, ScrollOf3Bits, SteppedBeforeDrawn,
+};
 pub use editors::{
     Bit7Shown, ChannelsBy8Bits, ConverterOfNobody, DcsrOfOwners, FirstTableStays,
     HighByteOfNextEntry, IvrOfBoth, NotYoursAsNothing, NotYoursServed, NotYoursUnmapped,
@@ -77,7 +103,9 @@ pub use export::{
 };
 pub use interrupts::{AlwaysCleared, LowestFirst};
 pub use line::{
-    AdvanceByRcAlone, RasterInAdjust, SplitLateInAdjust, SplitOnFirstLine, SteppedThoughRefused,
+    AdvanceByRcAlone, CyclesThoughRefused, ModeBeforeLengths, RasterInAdjust, ReportLost,
+    SplitLateInAdjust, SplitOnFirstLine, SteppedInModeThree, SteppedThoughRefused,
+    SteppedWithOtherLine, SteppedWithOtherStore,
 };
 pub use listing::{
     BadLineFrom0, BeyondCleared, BlankAfter, CarriageReturns, LeadingZero, LfLeftOut, LowerRead,

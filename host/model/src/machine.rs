@@ -187,11 +187,11 @@ calls! {
         /// An acknowledge: the answer and the vector.
         fn acknowledge() -> (Answer, u8);
 
-        /// A line step, with what the processor does at the 8255.
-        fn step(ram: &[u8], accesses: [Access; 3]) -> (Answer, Report);
-
-        /// The current line drawn.
-        fn draw(ram: &[u8], store: &[u8], line: &mut [u8]) -> Answer;
+        /// The current line drawn and stepped, with what the processor does at the
+        /// 8255.
+        fn line(
+            ram: &[u8], store: &[u8], line: &mut [u8], accesses: [Access; 3]
+        ) -> (Answer, Report);
     }
 
     no_chip {
@@ -335,13 +335,16 @@ impl Machine for Model {
         (answer(number), vector)
     }
 
-    fn step(&mut self, ram: &[u8], accesses: [Access; 3]) -> (Answer, Report) {
-        let (number, report) = Model::step(self, ram, accesses.map(Into::into));
+    fn line(
+        &mut self,
+        ram: &[u8],
+        store: &[u8],
+        line: &mut [u8],
+        accesses: [Access; 3],
+    ) -> (Answer, Report) {
+        let accesses = accesses.map(Into::into);
+        let (number, report) = Model::line(self, ram, store, line, accesses);
         (answer(number), in_numbers(&report))
-    }
-
-    fn draw(&mut self, ram: &[u8], store: &[u8], line: &mut [u8]) -> Answer {
-        answer(Model::draw(self, ram, store, line))
     }
 
     fn forecast(ram: &[u8], start: u16, prescale: u8) -> Length {

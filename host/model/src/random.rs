@@ -88,6 +88,13 @@ pub fn any_state(random: &mut Random) -> State {
     state
 }
 
+/// Any state in which a line can be drawn, and so stepped: not in mode 3.
+pub fn drawable_state(random: &mut Random) -> State {
+    let mut state = any_state(random);
+    state.gate.mode = random.below(3) as u8;
+    state
+}
+
 /// A table: of any owners, or with all of a kind for one editor.
 pub fn any_table(random: &mut Random) -> Table {
     let r = random;

@@ -2,10 +2,17 @@
 //! ends the test.
 
 use crate::machine::Machine;
-use plus::{Access, Answer, Editor, Report, State, EXPORT, LINE, RAM, STORE, UNLOCK};
+use plus::{kind, Access, Answer, Editor, Report, State, EXPORT, LINE, RAM, STORE, UNLOCK};
 
 /// What follows a byte that isn't zero and a zero, in the unlock sequence.
 pub const KEY: &[u8] = UNLOCK.split_at(2).1.split_at(14).0;
+
+/// What a refused line reports: no cycles, and each channel as sitting out.
+pub const IDLE: Report = Report {
+    cycles: 0,
+    kinds: [kind::SAT_OUT; 3],
+    lows: [0; 3],
+};
 
 /// Runs a test, `fn name<M: Machine>()`, on the core and on the model. Faults
 /// named after it are cores that the test has to fail on.
@@ -149,7 +156,12 @@ pub trait UnderTest: Machine + Sized {
         }
     }
 
-    /// A line step with the processor off the 8255.
+    /// The line's call where what is drawn doesn't matter.
+    fn step(&mut self, ram: &[u8], accesses: [Access; 3]) -> (Answer, Report) {
+        self.line(ram, &[0; STORE], &mut [0; LINE], accesses)
+    }
+
+    /// The same with the processor off the 8255.
     fn plain_step(&mut self, ram: &[u8]) -> (Answer, Report) {
         self.step(ram, [Access::Off; 3])
     }
@@ -161,10 +173,32 @@ pub trait UnderTest: Machine + Sized {
         }
     }
 
-    /// The current line, drawn over other bytes.
-    fn drawn(&mut self, ram: &[u8], store: &[u8]) -> Vec<u8> {
+    /// A line in any mode, as a replay steps it. The mode says nothing of a step, so
+    /// that in mode 3, where the line's call does nothing, it is made in another.
+    fn step_in_any_mode(&mut self, ram: &[u8]) {
+        let mode = self.state().gate.mode;
+        if mode == 3 {
+            self.change(|state| state.gate.mode = 2);
+        }
+        self.lines(1, ram);
+        if mode == 3 {
+            self.change(|state| state.gate.mode = 3);
+        }
+    }
+
+    /// The current line, drawn over other bytes, and stepped.
+    fn drawn_and_stepped(&mut self, ram: &[u8], store: &[u8]) -> Vec<u8> {
         let mut line = vec![0xEE; LINE];
-        assert_eq!(self.draw(ram, store, &mut line), Answer::Done);
+        let (answer, _) = self.line(ram, store, &mut line, [Access::Off; 3]);
+        assert_eq!(answer, Answer::Done);
+        line
+    }
+
+    /// The current line as it would be drawn: the chip stays on it.
+    fn drawn(&mut self, ram: &[u8], store: &[u8]) -> Vec<u8> {
+        let before = self.state();
+        let line = self.drawn_and_stepped(ram, store);
+        self.put(before);
         line
     }
 }

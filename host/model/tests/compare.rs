@@ -1,9 +1,10 @@
 //! The core against the model over a million random calls, and that the
 //! comparison can fail.
 
-use model::compare::{compare, listing, mend, replay, take, Call};
+use model::compare::{compare, line, listing, mend, replay, take, Call};
 use model::machine::{Fault, Faulty};
 use model::{fault, Model};
+use plus::{LINE, RAM, STORE};
 
 /// The binary `compare` makes as many calls as it is told.
 #[test]
@@ -25,9 +26,8 @@ fn core_is_the_model() {
         &[0, 1, 10],
         &[0, 1],
         &[0, 5],
-        &[0, 1],
-        &[0, 1, 6],
         &[0, 1, 4],
+        &[0, 1, 6],
     ];
     for ((name, answers), numbers) in Call::NAMES.iter().zip(tally.answers).zip(numbers) {
         for (number, times) in answers.into_iter().enumerate() {
@@ -98,13 +98,14 @@ caught! {
     export: XHighAsRead, MagnificationAtMirror, HighAddressFirst, StartOneWordBack, NoPrescales,
         ExportedThoughRefused;
     acknowledge: LowestFirst, AlwaysCleared;
-    step: SteppedThoughRefused, RasterInAdjust, SplitLateInAdjust, SplitOnFirstLine,
-        AdvanceByRcAlone, RepeatKTimes, OuterCountKept, EightRegisters, HighestChannelFirst,
+    line: HighestSpriteFirst, ScrollOf3Bits, SteppedBeforeDrawn, ModeThreeDrawn,
+        DrawnThoughRefused, SteppedThoughRefused, SteppedWithOtherStore, SteppedWithOtherLine,
+        SteppedInModeThree, ModeBeforeLengths, CyclesThoughRefused, ReportLost,
+        RasterInAdjust, SplitLateInAdjust, SplitOnFirstLine, AdvanceByRcAlone, RepeatKTimes, OuterCountKept, EightRegisters, HighestChannelFirst,
         PauseOf0Counts, ControlAsNothing, PauseDisturbed, OthersDisturbed, SatOutDisturbed,
         OnTakesTwo, AccessOfChannel1, AccessesIgnored, LoadLost;
     forecast: LoopInStopWord, ListWithoutStop, MostOnce, MostIsLeast, LeastIsMost,
         MostThoughRefused;
-    draw: HighestSpriteFirst, ScrollOf3Bits, ModeThreeDrawn;
 }
 
 /// A difference in a buffer alone says where it is.
@@ -119,6 +120,22 @@ fn a_byte_that_differs_is_named() {
 fn an_entry_that_differs_is_named() {
     let difference = compare::<Faulty<fault::DcsrKept>>(1_000_000, 1).unwrap_err();
     assert!(difference.how.contains("of the record"), "{difference}");
+}
+
+/// Each buffer of every length up to 16 above its own, in each of the four modes.
+#[test]
+fn refused_lines_are_the_models() {
+    let tally = line::refusals::<Model>().unwrap_or_else(|difference| panic!("{difference}"));
+    println!("{tally:?}");
+    // Of each buffer so many lengths that are not its own, and one that is; and of 125
+    // sets of three lengths one is right.
+    let others = (RAM + STORE + LINE + 3 * 16) as u64;
+    let alone = [3, others, 3];
+    let together = [1, 124, 1];
+    let expected = [0, 1, 2].map(|n| alone[n] + together[n]);
+    let answers = [0, 1, 4].map(|number| tally.answers[number]);
+    assert_eq!(answers, [3 * expected[0], 4 * expected[1], expected[2]]);
+    assert_eq!(tally.both, expected[1]);
 }
 
 #[test]
@@ -272,7 +289,8 @@ take_caught! {
     StartWithValue, StartWithAddress, PictureWriteWithoutAddress
 }
 
-/// A test for each order of refusals: it is seen where all sets of faults are.
+/// A test for each fault of refusals, their order above all: it is seen where all sets
+/// of reasons are.
 macro_rules! order_caught {
     ($($calls:ident { $($order:ident: $fault:ident),+ })+) => {$($(
         #[test]
@@ -291,6 +309,16 @@ order_caught! {
     mend {
         seventeen_before_sixteen: ReportBeforeStop,
         sixteen_and_seventeen_before_one: LengthTestedLast
+    }
+    line {
+        four_before_one: ModeBeforeLengths,
+        stepped_though_refused: SteppedThoughRefused,
+        stepped_with_another_store: SteppedWithOtherStore,
+        stepped_with_another_line: SteppedWithOtherLine,
+        stepped_in_mode_3: SteppedInModeThree,
+        drawn_though_refused: DrawnThoughRefused,
+        served_in_mode_3: ModeThreeDrawn,
+        cycles_though_refused: CyclesThoughRefused
     }
 }
 

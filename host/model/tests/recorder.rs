@@ -5,11 +5,17 @@ use model::compare::replay::{for_a_take, note};
 use model::compare::Script;
 use plus::take::{file_of, kind, NoRecords, Noted, Record, Recorder, Take};
 use plus::Editor::{self, Picture, Song};
-use plus::{Access, Answer, Chip, State, Table, RAM, STORE, UNLOCK};
+use plus::{Access, Answer, Chip, State, Table, LINE, RAM, STORE, UNLOCK};
 
 /// The processor is off the 8255: a take says nothing of it, and the state does
 /// not depend on it.
 const OFF: [Access; 3] = [Access::Off; 3];
+
+/// The line's call with buffers of these lengths, over some RAM.
+fn line(recorder: &mut Recorder, ram: &[u8], store: usize, line: usize) -> Answer {
+    let (store, mut line) = (vec![0; store], vec![0; line]);
+    recorder.line(ram, &store, &mut line, OFF).0
+}
 
 /// All that a call can change: the state, both records and the store.
 type Shown = (State, [Vec<(u16, u8)>; 2], Vec<u8>);
@@ -99,13 +105,18 @@ fn each_kind_with_its_line() {
     let _ = recorder.write_bd(7);
     let _ = recorder.page_write(Song, &mut store, 0x6805, 0);
     let _ = recorder.page_write(Song, &mut store, 0x6C0F, 1);
-    assert_eq!(recorder.step(&ram, OFF).0, 0);
+    assert_eq!(line(&mut recorder, &ram, STORE, LINE), 0);
     assert_eq!(recorder.acknowledge().0, 0);
-    // Refused, and no line step.
-    assert_eq!(recorder.step(&ram[1..], OFF).0, 1);
+    // Refused, and no line passes.
+    assert_eq!(line(&mut recorder, &ram[1..], STORE, LINE), 1);
+    assert_eq!(line(&mut recorder, &ram, STORE - 1, LINE), 1);
+    assert_eq!(line(&mut recorder, &ram, STORE, LINE + 1), 1);
+    let _ = recorder.write_7f(0x83);
+    assert_eq!(line(&mut recorder, &ram, STORE, LINE), 4);
+    let _ = recorder.write_7f(0x82);
     assert_eq!(recorder.undo(Song, &mut store[1..]), 1);
     assert_eq!(recorder.acknowledge().0, 5);
-    let _ = recorder.step(&ram, OFF);
+    assert_eq!(line(&mut recorder, &ram, STORE, LINE), 0);
     let _ = recorder.page_write(Song, &mut store, 0x4000, 0x0F);
     let _ = recorder.undo(Song, &mut store);
     recorder.start(Table {
@@ -129,6 +140,8 @@ fn each_kind_with_its_line() {
         record(0, kind::PAGE_WRITE, 0x6805, 0),
         record(0, kind::PAGE_WRITE, 0x6C0F, 1),
         record(1, kind::ACKNOWLEDGE, 0, 0),
+        record(1, kind::WRITE_7F, 0, 0x83),
+        record(1, kind::WRITE_7F, 0, 0x82),
         record(2, kind::PAGE_WRITE, 0x4000, 0x0F),
         record(2, kind::UNDO, 0, 0),
         record(2, kind::START, 0, 0),
@@ -155,8 +168,9 @@ fn calls_that_change_nothing() {
         let _ = recorder.page_write(Song, &mut store, 0x6800, 0);
         let _ = recorder.page_write(Song, &mut store, 0x4000, 0);
         assert_eq!(recorder.records().unwrap().len(), before + more + 2);
-        // A read is never noted, nor is drawing or an export.
+        // A read is never noted, nor is a line or an export.
         let _ = recorder.page_read(Song, &store, 0x6800, 0);
+        assert_eq!(line(&mut recorder, &[0; RAM], STORE, LINE), 0);
         let _ = recorder.export(&mut [0; plus::EXPORT]);
         assert_eq!(recorder.records().unwrap().len(), before + more + 2);
     }
@@ -250,7 +264,7 @@ fn two_tables_leave_no_records() {
 #[test]
 fn a_reset_starts_anew() {
     let (mut recorder, _) = mapped(Noted::Changes);
-    let _ = recorder.step(&[0; RAM], OFF);
+    let _ = line(&mut recorder, &[0; RAM], STORE, LINE);
     recorder.reset();
     assert_eq!(recorder.records(), Ok(&[][..]));
     assert_eq!(**recorder, *Chip::new());

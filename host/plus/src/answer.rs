@@ -22,8 +22,8 @@ use std::fmt;
 pub enum Answer {
     /// The call was served.
     Done = 0,
-    /// A lent buffer has the wrong length: page read and write, undo, export, line
-    /// step, drawing, forecast, playing a take. Or it has fewer words than are in use:
+    /// A lent buffer has the wrong length: page read and write, undo, export, the
+    /// line's call, forecast, playing a take. Or it has fewer words than are in use:
     /// mending a list.
     WrongLength = 1,
     /// The address is not of the page, or the page is not mapped: page read and
@@ -32,7 +32,7 @@ pub enum Answer {
     /// Nothing takes the byte: writes to the page, the 6845's data port, 7Fxx. Or no
     /// record has the number: a take's record.
     NothingThere = 3,
-    /// The screen mode is 3: drawing.
+    /// The screen mode is 3: the line's call.
     ModeThree = 4,
     /// No interrupt waits: acknowledge.
     NoInterrupt = 5,

@@ -15,7 +15,7 @@ pub struct Chip {
 /// The places of both editors' records, each at its editor's number.
 pub(crate) type Places = [[u32; PLACES]; 2];
 
-/// What a line step tells.
+/// What a line's call tells.
 #[derive(Clone, Copy, Debug, PartialEq, Eq)]
 pub struct Report {
     /// Cycles of the whole line, its dead cycle with them: at most 34.
@@ -166,29 +166,24 @@ impl Chip {
         (acknowledged.answer, acknowledged.vector)
     }
 
-    /// One line: sound, raster compare, split compare, counters. `accesses` says
-    /// what the processor does at the 8255, channel by channel, and changes the
-    /// line's cycles alone. The answer, 0 or 1, and what the line did.
+    /// A line: it is drawn, and then the chip stepped. Each byte of `line` becomes the
+    /// number of a palette entry, by the chip before the call; the chip is then on
+    /// the next line, after sound, raster compare, split compare and counters.
+    /// `accesses` says what the processor does at the 8255, channel by channel, and
+    /// changes the line's cycles alone. The answer, 0, 1 or 4, and what the line did;
+    /// refused, it does neither, and no line has passed.
     #[must_use]
-    pub fn step(&mut self, ram: &[u8], accesses: [Access; 3]) -> (Answer, Report) {
+    #[inline]
+    pub fn line(
+        &mut self,
+        ram: &[u8],
+        store: &[u8],
+        line: &mut [u8],
+        accesses: [Access; 3],
+    ) -> (Answer, Report) {
         let [first, second, third] = accesses;
-        let (ram, length) = (ram.as_ptr(), ram.len());
-        let stepped = unsafe { ffi::plus_step(self.state, ram, length, first, second, third) };
-        **self = stepped.chip;
-        let report = Report {
-            cycles: stepped.cycles,
-            kinds: stepped.kinds,
-            lows: stepped.lows,
-        };
-        (stepped.answer, report)
-    }
-
-    /// Draws the current line: each byte of `line` becomes the number of a
-    /// palette entry. Answers 0, 1 or 4.
-    #[must_use]
-    pub fn draw(&self, ram: &[u8], store: &[u8], line: &mut [u8]) -> Answer {
-        unsafe {
-            ffi::plus_draw(
+        let stepped = unsafe {
+            ffi::plus_line(
                 self.state,
                 ram.as_ptr(),
                 ram.len(),
@@ -196,8 +191,18 @@ impl Chip {
                 store.len(),
                 line.as_mut_ptr(),
                 line.len(),
+                first,
+                second,
+                third,
             )
-        }
+        };
+        **self = stepped.chip;
+        let report = Report {
+            cycles: stepped.cycles,
+            kinds: stepped.kinds,
+            lows: stepped.lows,
+        };
+        (stepped.answer, report)
     }
 }
 

@@ -82,10 +82,14 @@ extern "C" {
     ) -> Answered;
     pub(crate) fn plus_export(chip: Aligned, out: *mut u8, out_length: usize) -> Answer;
     pub(crate) fn plus_acknowledge(chip: Aligned) -> Acknowledged;
-    pub(crate) fn plus_step(
+    pub(crate) fn plus_line(
         chip: Aligned,
         ram: *const u8,
         ram_length: usize,
+        store: *const u8,
+        store_length: usize,
+        line: *mut u8,
+        line_length: usize,
         first: Access,
         second: Access,
         third: Access,
@@ -144,13 +148,4 @@ extern "C" {
         file: *const u8,
         file_length: usize,
     ) -> Replayed;
-    pub(crate) fn plus_draw(
-        chip: Aligned,
-        ram: *const u8,
-        ram_length: usize,
-        store: *const u8,
-        store_length: usize,
-        line: *mut u8,
-        line_length: usize,
-    ) -> Answer;
 }

@@ -11,6 +11,8 @@
 //! and all else in the answer is 0, but for the number of a bad line or a bad
 //! record.
 //!
+//! A line is one call, [`Chip::line`], which draws it and steps on to the next.
+//!
 //! Two editors work on one chip, a song editor and a picture editor. Page reads,
 //! page writes and undos name the [`Editor`] that makes them, and each has a record
 //! of its own. A [`Table`], which the host gives by [`Chip::start`], says which of
@@ -24,7 +26,7 @@
 //! A sound list forecast, then played on channel 0 up to its STOP:
 //!
 //! ```
-//! use plus::{forecast, Access, Answer, Chip, Editor, RAM, STORE, UNLOCK};
+//! use plus::{forecast, Access, Answer, Chip, Editor, LINE, RAM, STORE, UNLOCK};
 //!
 //! // LOAD 7 38h, PAUSE 2, STOP
 //! let (mut ram, mut store) = (vec![0; RAM], vec![0; STORE]);
@@ -43,8 +45,9 @@
 //! }
 //! let dcsr = chip.page_read(Editor::Song, &store, 0x6C0F, 0);
 //! assert_eq!(dcsr, (Answer::Done, 1)); // enabled
+//! let mut line = [0; LINE]; // what is drawn on the way
 //! for _ in 0..told.lines {
-//!     let (answer, _report) = chip.step(&ram, [Access::Off; 3]);
+//!     let (answer, _report) = chip.line(&ram, &store, &mut line, [Access::Off; 3]);
 //!     answer.served()?;
 //! }
 //! let dcsr = chip.page_read(Editor::Song, &store, 0x6C0F, 0);
@@ -52,18 +55,44 @@
 //! # Ok::<(), Answer>(())
 //! ```
 //!
+//! A line of one character in mode 2, and one in mode 3, which is neither drawn nor
+//! stepped. Entry 16 is the border:
+//!
+//! ```
+//! use plus::{Access, Answer, Chip, LINE, RAM, STORE};
+//!
+//! let (mut ram, store, mut line) = (vec![0; RAM], vec![0; STORE], [0; LINE]);
+//! ram[0] = 0b1010_0000;
+//! let mut chip = Chip::new();
+//! for (register, value) in [(1, 1), (6, 1), (9, 7)] {
+//!     chip.write_bc(register);
+//!     chip.write_bd(value).served()?;
+//! }
+//! chip.write_7f(0x82).served()?;
+//! chip.line(&ram, &store, &mut line, [Access::Off; 3]).0.served()?;
+//! assert_eq!(line[..5], [1, 0, 1, 0, 0]);
+//! assert_eq!(line[15..17], [0, 16]);
+//! assert_eq!(chip.crtc.counters.rc, 1); // the next line
+//!
+//! chip.write_7f(0x83).served()?;
+//! let (answer, report) = chip.line(&ram, &store, &mut line, [Access::Off; 3]);
+//! assert_eq!((answer, report.cycles), (Answer::ModeThree, 0));
+//! assert_eq!(chip.crtc.counters.rc, 1); // and still there
+//! # Ok::<(), Answer>(())
+//! ```
+//!
 //! A LOAD takes longer while the processor is on the 8255. RAM of zeros is all
 //! LOADs, and here the three channels execute one each on every line:
 //!
 //! ```
-//! use plus::{Access, Chip, RAM};
+//! use plus::{Access, Chip, LINE, RAM, STORE};
 //!
 //! let mut chip = Chip::new();
 //! for channel in &mut chip.sound.channels {
 //!     channel.enabled = true;
 //! }
 //! let lines = [Access::Off, Access::On, Access::PsgWrite].map(|access| {
-//!     let (_, report) = chip.step(&[0; RAM], [access; 3]);
+//!     let (_, report) = chip.line(&[0; RAM], &[0; STORE], &mut [0; LINE], [access; 3]);
 //!     report.cycles
 //! });
 //! assert_eq!(lines, [28, 31, 34]);

@@ -1,7 +1,7 @@
 //! Takes on disc: the calls that changed a chip, in their order, as a file.
 //!
 //! A file is a comment of any bytes, the records, and a trailer. A [`Record`] is
-//! one call with its line number, that is how many line steps were made from the
+//! one call with its line number, that is how many lines have passed from the
 //! reset up to it. A [`Recorder`] makes the records; [`file_of`] writes them,
 //! [`Take::open`] opens such a file, and [`replay()`] plays it. A start is noted
 //! without its [`Table`](crate::Table): all starts of a take give one, which a host
@@ -54,7 +54,7 @@ pub const TRAILER: usize = 12;
 #[repr(C)]
 #[derive(Clone, Copy, Debug, Default, PartialEq, Eq)]
 pub struct Record {
-    /// Line steps from the reset up to the call.
+    /// Lines that have passed from the reset up to the call.
     pub line: u32,
     /// Which call it is.
     pub kind: u8,

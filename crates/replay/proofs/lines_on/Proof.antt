@@ -33,7 +33,7 @@ loop-again c =
     let a = start .args in
     let v = l .loop in
     ap (linesOn (a .ram .now) (a .to - (v .at + 1)))
-    (parts-moved (a .ram .now) (a .chip) (v .sound) (v .crtc) (v .raster) _ (c .before .before .before .advance .result) (start .pre) (c .before .before .before .advance .ensures))
+    (parts-moved (a .ram .now) (a .chip) (v .sound) (v .crtc) (v .raster) _ (c .before .before .before .advance .result) (c .before .before .before .advance .ensures))
     ∙ line-more (a .ram .now) (a .to) (v .at) (moved (a .chip) (v .sound) (v .crtc) (v .raster)) (search needs)
     ∙ v .inv
 

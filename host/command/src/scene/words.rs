@@ -51,7 +51,9 @@ pub const WORDS: &[Word] = &[
     }),
     word("export", &[], |making, _| making.call(b'E', 0, 0)),
     word("acknowledge", &[], |making, _| making.call(b'A', 0, 0)),
-    word("draw", &[], |making, _| making.call(b'P', 0, 0)),
+    word("draw", &[ACCESSES], |making, line| {
+        making.call(b'P', 0, line.number(0))
+    }),
     word("forecast", &[ADDRESS, PRESCALE], |making, line| {
         making.call(b'F', line.number(0), line.number(1))
     }),
@@ -64,7 +66,8 @@ const ADDRESS: Argument = argument("ADDRESS", "one to four hexadecimal digits", 
 const BYTE: Argument = argument("BYTE", "one or two hexadecimal digits", |digits| {
     hexadecimal(digits, 2)
 });
-/// What the processor does at the 8255, as the value of the runner's `L` has it.
+/// What the processor does at the 8255, as the value of the runner's `L` and `P` has
+/// it.
 const ACCESSES: Argument = Argument {
     name: "[BYTE]",
     ..BYTE

@@ -119,6 +119,26 @@ fn a_frame_begins_at_a_frames_first_line() {
     assert_eq!(left, [[255; 3], [255; 3], [0; 3], [0; 3]]);
 }
 
+/// Lines that mode 3 refuses move nothing: the frame begins where it would.
+#[test]
+fn refused_lines_are_no_lines() {
+    let folder = Folder::new();
+    let pictures = [0, 7].map(|refused| {
+        let mut scene = Scene::new();
+        scene.ram[..0x4000].fill(0xA5);
+        let scene = scene
+            .registers(&[(1, 40), (4, 3), (6, 2), (9, 7)])
+            .each('L', &[0, 0, 0])
+            .refused_lines(refused)
+            .record('G', 0, 0x81);
+        let file = folder.file("refused.scene", &scene.bytes());
+        let out = folder.place("refused.png");
+        frame(&file, &out).prints("640 x 32\n");
+        fs::read(&out).unwrap()
+    });
+    assert!(pictures[0] == pictures[1]);
+}
+
 #[test]
 fn mode_3_is_refused_and_no_file_touched() {
     let folder = Folder::new();

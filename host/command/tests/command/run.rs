@@ -67,9 +67,12 @@ fn each_letter() {
         .each('L', &[0, 0])
         .record('A', 0, 0)
         .record('R', 0x6C0F, 0)
-        .record('P', 0, 0)
+        // A line shown, while the processor writes a PSG register for channel 2; and
+        // in mode 3 none, of either letter.
+        .record('P', 0x1234, 0x20)
         .record('G', 0, 0x83)
-        .record('P', 0, 0)
+        .each('P', &[0x20])
+        .each('L', &[0x20])
         .record('E', 0x6C09, 0x12)
         .record('x', 0, 0)
         .record('Z', 0, 0)
@@ -84,11 +87,13 @@ fn each_letter() {
         &["0 1 - - -", "0 3 - - control 16"],
         // IVR 01h: the vector 0, and the interrupt stays.
         &["0 0", "0 20"],
-        &[&format!("0 {}", "g".repeat(640)), "0", "4"],
-        // IVR, and channel 2 behind its three words.
+        // R6 is 0, so all is border; the word after the three is a LOAD.
+        &[&format!("0 {} 12 - - load 0", "g".repeat(640)), "0"],
+        &["4", "4 0 - - -"],
+        // IVR, and channel 2 behind its four words.
         &[&format!(
             "0 {}",
-            hexadecimal(&exported(&[(0x6805, 1), (0x6C08, 6), (0x6C09, 0x80)]))
+            hexadecimal(&exported(&[(0x6805, 1), (0x6C08, 8), (0x6C09, 0x80)]))
         )],
         &["bad", "0", "10", "2 0"],
     ];
@@ -96,7 +101,7 @@ fn each_letter() {
     let file = folder.file("each.scene", &scene.bytes());
     let ran = plus(["run", &file]);
     assert_eq!(ran.out, lines.concat().join("\n") + "\n");
-    let said = format!("{file}: record number 40 has the unknown letter 'x'\n");
+    let said = format!("{file}: record number 41 has the unknown letter 'x'\n");
     assert_eq!((ran.status, ran.err), (Some(1), said));
 }
 
@@ -274,8 +279,9 @@ fn recorded() -> (Scene, Vec<[u16; 4]>) {
         .record('W', 0x7000, 1)
         .record('A', 0x1234, 9)
         .record('R', 0x6800, 0)
+        // A line that is shown, and five that mode 3 refuses.
         .record('P', 0, 0)
-        .record('L', 0, 0)
+        .refused_lines(5)
         .record('A', 0x1234, 9)
         .record('F', 0, 0)
         .record('E', 0, 0)
@@ -290,6 +296,8 @@ fn recorded() -> (Scene, Vec<[u16; 4]>) {
         [2, 1, 0, 9],
         [2, 2, 0, 7],
         [2, 4, 0x6C0F, 1],
+        [3, 3, 0, 0x83],
+        [3, 3, 0, 0x80],
         [3, 5, 0, 0],
         [3, 4, 0x4000, 0xFF],
         [3, 6, 0, 0],
@@ -549,7 +557,7 @@ fn a_take_is_saved_before_anything_is_printed() {
     let words = ["run", &file, "--take", &out];
     let ran = command(words).stdout(writer).output().unwrap();
     assert_eq!(ran.status.code(), Some(0));
-    assert_eq!(plus(["records", &out]).out.lines().count(), 1 + 17 + 8);
+    assert_eq!(plus(["records", &out]).out.lines().count(), 1 + 17 + 10);
     // Where it can't be written, nothing is printed; nor where the table can't, and
     // then the take is left alone.
     let nowhere = folder.place("missing/out");

@@ -90,6 +90,7 @@ fn each_word() {
         ("export", Scene::new().each('E', &[0])),
         ("acknowledge", Scene::new().each('A', &[0])),
         ("draw", Scene::new().each('P', &[0])),
+        ("draw 2a", Scene::new().each('P', &[0x2A])),
         ("forecast 8000 255", Scene::new().record('F', 0x8000, 255)),
         ("reset", Scene::new().each('Z', &[0])),
         (
@@ -319,6 +320,11 @@ fn bad_lines() {
             "lines 1 xx",
             "lines takes N [BYTE], and 'xx' is no BYTE, one or two hexadecimal digits".into(),
         ),
+        (
+            "draw 100",
+            "draw takes [BYTE], and '100' is no BYTE, one or two hexadecimal digits".into(),
+        ),
+        ("draw 1 2", "draw takes [BYTE], and '2' is too much".into()),
         (
             "forecast 8000 256",
             "forecast takes ADDRESS PRESCALE, and '256' is no PRESCALE, a number from 0 to 255"

@@ -128,6 +128,14 @@ impl Scene {
             .fold(self, |scene, &value| scene.record(op, 0, value))
     }
 
+    /// Lines that mode 3 refuses, some of them to be shown, and mode 0 after them.
+    pub fn refused_lines(self, count: usize) -> Scene {
+        let lines = (0..count).fold(self.record('G', 0, 0x83), |scene, n| {
+            scene.record(['L', 'P'][n % 2], 0, 0)
+        });
+        lines.record('G', 0, 0x80)
+    }
+
     /// 6845 registers.
     pub fn registers(self, values: &[(u8, u8)]) -> Scene {
         values.iter().fold(self, |scene, &(number, value)| {

@@ -80,6 +80,8 @@ impl Making {
             calls.extend([Call::WriteBc(register), Call::WriteBd(byte)]);
         }
         self.some(&mut calls);
+        // Under a table IVR could not be set.
+        calls.retain(|call| !matches!(call, Call::Start(_)));
         let ivr = match self.premises.ivr_bit_0 {
             true => self.random.byte() | 1,
             false => self.random.byte() & 0xFE,
@@ -195,10 +197,7 @@ impl Making {
     fn of_host(&mut self) -> Call {
         let r = &mut self.random;
         match r.below(24) {
-            0..=11 => Call::Step {
-                ram: RAM,
-                accesses: any_accesses(r),
-            },
+            0..=11 => self.line(),
             12..=15 => Call::Acknowledge,
             16 => Call::WriteBc(r.byte()),
             17 => Call::WriteBd(r.byte()),
@@ -209,11 +208,19 @@ impl Making {
                 false => any_table(r),
             }),
             22 => Call::Export { out: EXPORT },
-            _ => Call::Draw {
-                ram: RAM,
-                store: STORE,
-                line: LINE,
-            },
+            // Lines are refused in mode 3.
+            _ => Call::Write7f(0x80 | r.pick(&[0, 1, 2, 3])),
+        }
+    }
+
+    /// A line, seldom with a buffer of another length.
+    fn line(&mut self) -> Call {
+        let (store, accesses) = (self.store(), any_accesses(&mut self.random));
+        Call::Line {
+            ram: RAM,
+            store,
+            line: LINE,
+            accesses,
         }
     }
 }

@@ -20,12 +20,11 @@ use std::time::{Duration, Instant};
 /// What a case calls.
 #[derive(Clone, Copy)]
 enum Work {
-    Step,
+    Line,
     PageWrite,
     PageRead,
     Undo,
     Export,
-    Draw,
     Frame,
     /// A frame at whose start every sprite is put somewhere else.
     Moving,
@@ -43,6 +42,9 @@ enum Work {
 /// a STOP: how often, and for how many lines.
 const STRETCHES: u32 = 100;
 const STRETCH: u32 = 10_000;
+
+/// Lines of one sort in a timed run: 1,600 times those that a turn of the list takes.
+const LINES: usize = 1_600 * 19;
 
 /// A list is mended once, so there are as many of the same as a timed run mends.
 const LISTS: usize = 20;
@@ -79,130 +81,80 @@ const fn case(name: &'static str, work: Work, count: usize, sprites: u16, mode: 
     }
 }
 
-const CASES: [Case; 37] = [
-    case("line step", Work::Step, 100_000, 0, 1),
-    case("page write", Work::PageWrite, 100_000, 0, 1),
-    case("page read", Work::PageRead, 100_000, 0, 1),
-    case("undo", Work::Undo, 100_000, 0, 1),
-    case("export", Work::Export, 10_000, 0, 1),
-    case("draw, no sprite", Work::Draw, 2_000, 0, 1),
-    case("draw, no sprite, mode 0", Work::Draw, 2_000, 0, 0),
-    case("draw, no sprite, mode 2", Work::Draw, 2_000, 0, 2),
-    case("draw, 4 sprites", Work::Draw, 2_000, 4, 1),
-    case("draw, 16 sprites", Work::Draw, 2_000, 16, 1),
+/// A line of one sort, again and again.
+const fn line(name: &'static str, sprites: u16, mode: u8) -> Case {
+    case(name, Work::Line, LINES, sprites, mode)
+}
+
+const CASES: [Case; 36] = [
+    line("line, no sprite", 0, 1),
+    line("line, no sprite, mode 0", 0, 0),
+    line("line, no sprite, mode 2", 0, 2),
+    line("line, 4 sprites", 4, 1),
+    line("line, 4 sprites, mode 0", 4, 0),
+    line("line, 4 sprites, mode 2", 4, 2),
+    line("line, 16 sprites", 16, 1),
+    line("line, 16 sprites, mode 0", 16, 0),
+    line("line, 16 sprites, mode 2", 16, 2),
     Case {
         transparent: true,
-        ..case("draw, 16 transparent sprites", Work::Draw, 2_000, 16, 1)
+        ..line("line, 16 transparent sprites", 16, 1)
     },
-    case("draw, 4 sprites, mode 0", Work::Draw, 2_000, 4, 0),
-    case("draw, 16 sprites, mode 0", Work::Draw, 2_000, 16, 0),
-    case("draw, 4 sprites, mode 2", Work::Draw, 2_000, 4, 2),
-    case("draw, 16 sprites, mode 2", Work::Draw, 2_000, 16, 2),
     Case {
         magnification: 0b0101,
-        ..case(
-            "draw, 16 sprites at magnification 1",
-            Work::Draw,
-            2_000,
-            16,
-            1,
-        )
+        ..line("line, 16 sprites at magnification 1", 16, 1)
     },
     Case {
         magnification: 0b1010,
-        ..case(
-            "draw, 16 sprites at magnification 2",
-            Work::Draw,
-            2_000,
-            16,
-            1,
-        )
-    },
-    Case {
-        apart: 0,
-        ..case("draw, 16 sprites in one place", Work::Draw, 2_000, 16, 1)
-    },
-    Case {
-        apart: 0,
-        transparent: true,
-        ..case(
-            "draw, 16 transparent in one place",
-            Work::Draw,
-            2_000,
-            16,
-            1,
-        )
+        ..line("line, 16 sprites at magnification 2", 16, 1)
     },
     Case {
         magnification: 0b0101,
         apart: 16,
-        ..case(
-            "draw, 16 edge to edge, magnification 1",
-            Work::Draw,
-            2_000,
-            16,
-            1,
-        )
+        ..line("line, 16 edge to edge, magnification 1", 16, 1)
+    },
+    Case {
+        apart: 0,
+        ..line("line, 16 sprites in one place", 16, 1)
+    },
+    Case {
+        apart: 0,
+        transparent: true,
+        ..line("line, 16 transparent in one place", 16, 1)
     },
     Case {
         apart: 1,
         transparent: true,
-        ..case("draw, 16 transparent, 1 apart", Work::Draw, 2_000, 16, 1)
+        ..line("line, 16 transparent, 1 apart", 16, 1)
     },
     Case {
         magnification: 0b0101,
         apart: 1,
         transparent: true,
-        ..case(
-            "draw, 16 transparent, 1 apart, magnification 1",
-            Work::Draw,
-            2_000,
-            16,
-            1,
-        )
+        ..line("line, 16 transparent, 1 apart, magnification 1", 16, 1)
     },
     Case {
         falling: true,
-        ..case(
-            "draw, 16 sprites, highest leftmost",
-            Work::Draw,
-            2_000,
-            16,
-            1,
-        )
+        ..line("line, 16 sprites, highest leftmost", 16, 1)
     },
     Case {
         falling: true,
         transparent: true,
-        ..case(
-            "draw, 16 transparent, highest leftmost",
-            Work::Draw,
-            2_000,
-            16,
-            1,
-        )
+        ..line("line, 16 transparent, highest leftmost", 16, 1)
     },
     Case {
         apart: 1,
         falling: true,
         transparent: true,
-        ..case(
-            "draw, 16 transparent, 1 apart, highest leftmost",
-            Work::Draw,
-            2_000,
-            16,
-            1,
-        )
+        ..line("line, 16 transparent, 1 apart, highest leftmost", 16, 1)
     },
     Case {
         magnification: 0b0101,
         apart: 1,
         falling: true,
         transparent: true,
-        ..case(
-            "draw, 16 transparent, 1 apart, magnification 1, highest leftmost",
-            Work::Draw,
-            2_000,
+        ..line(
+            "line, 16 transparent, 1 apart, magnification 1, highest leftmost",
             16,
             1,
         )
@@ -210,6 +162,10 @@ const CASES: [Case; 37] = [
     case("frame of 312 lines, no sprite", Work::Frame, 10, 0, 1),
     case("frame of 312 lines, 16 sprites", Work::Frame, 10, 16, 1),
     case("frame of 312 lines, 16 moving", Work::Moving, 10, 16, 1),
+    case("page write", Work::PageWrite, 100_000, 0, 1),
+    case("page read", Work::PageRead, 100_000, 0, 1),
+    case("undo", Work::Undo, 100_000, 0, 1),
+    case("export", Work::Export, 10_000, 0, 1),
     case("forecast, 32,767 words", Work::Forecast, 20, 0, 1),
     case("print, 30,000 words", Work::Print, 20, 0, 1),
     case("read, 30,000 words", Work::Read, 20, 0, 1),
@@ -290,11 +246,22 @@ fn played() -> Vec<u8> {
     take::file_of(b"", &records).expect("records are good")
 }
 
-/// 40 characters, 39 rows, the case's mode and sprites, all channels on, and a
-/// full record.
+/// The last row of a frame: for lines of one sort the last that its sprites are on,
+/// 16 times their magnification being the lines from their Y on.
+fn last_row(case: &Case) -> u8 {
+    match (case.work, case.sprites, case.magnification & 3) {
+        (Work::Line, 1.., 1) => 1,
+        (Work::Line, 1.., 2) => 3,
+        (Work::Line, 1.., _) => 7,
+        _ => 38,
+    }
+}
+
+/// 40 characters, 39 rows or fewer, the case's mode and sprites, all channels on, and
+/// a full record.
 fn set_up<M: UnderTest>(case: &Case) -> M {
     let mut machine = M::open();
-    machine.registers(&[(1, 40), (4, 38), (6, 39), (9, 7), (12, 0x30)]);
+    machine.registers(&[(1, 40), (4, last_row(case)), (6, 39), (9, 7), (12, 0x30)]);
     machine.write_7f(0x80 | case.mode);
     for n in 0..case.sprites {
         let place = if case.falling {
@@ -350,8 +317,8 @@ macro_rules! calls_of {
             }
             let start = Instant::now();
             match case.work {
-                Work::Step => repeat(count, |_| {
-                    black_box(machine.step(&lent.ram, [$off; 3]));
+                Work::Line => repeat(count, |_| {
+                    black_box(machine.line(&lent.ram, &lent.store, &mut lent.line, [$off; 3]));
                 }),
                 Work::PageWrite => repeat(count, |i| {
                     let address = 0x6400 + i as u16 % 64;
@@ -372,20 +339,15 @@ macro_rules! calls_of {
                 Work::Export => repeat(count, |_| {
                     black_box(machine.export(&mut lent.export));
                 }),
-                Work::Draw => repeat(count, |_| {
-                    black_box(machine.draw(&lent.ram, &lent.store, &mut lent.line));
-                }),
                 Work::Frame => repeat(312 * count, |_| {
-                    black_box(machine.draw(&lent.ram, &lent.store, &mut lent.line));
-                    black_box(machine.step(&lent.ram, [$off; 3]));
+                    black_box(machine.line(&lent.ram, &lent.store, &mut lent.line, [$off; 3]));
                 }),
                 Work::Moving => repeat(count, |frame| {
                     for (address, byte) in (0..case.sprites).flat_map(|n| moved(n, frame)) {
                         black_box(machine.page_write($song, &mut lent.store, address, byte));
                     }
                     for _ in 0..312 {
-                        black_box(machine.draw(&lent.ram, &lent.store, &mut lent.line));
-                        black_box(machine.step(&lent.ram, [$off; 3]));
+                        black_box(machine.line(&lent.ram, &lent.store, &mut lent.line, [$off; 3]));
                     }
                 }),
                 Work::Forecast => repeat(count, |_| {
@@ -420,7 +382,8 @@ macro_rules! calls_of {
                     for _ in 0..STRETCHES {
                         black_box(machine.page_write($song, &mut lent.store, 0x6C0F, 7));
                         for _ in 0..STRETCH {
-                            black_box(machine.step(&lent.ram, [$off; 3]));
+                            let (ram, store) = (&lent.ram, &lent.store);
+                            black_box(machine.line(ram, store, &mut lent.line, [$off; 3]));
                         }
                     }
                     black_box(machine.write_7f(0x80));
@@ -493,14 +456,14 @@ fn table() {
 /// The program of `examples/c`.
 const FROM_C: &str = concat!(env!("CARGO_MANIFEST_DIR"), "/../../target/examples/c/frame");
 
-/// A sum over a line drawn on the core after so many frames, as the program in C
-/// has it.
+/// A sum over the last line of so many frames on the core, as the program in C has
+/// it.
 fn sum(case: &Case, frames: usize) -> u64 {
     let (mut chip, mut lent) = (set_up::<Chip>(case), lent());
     for _ in 0..312 * frames {
-        black_box(chip.step(&lent.ram, [plus::Access::Off; 3]));
+        let off = [plus::Access::Off; 3];
+        black_box(chip.line(&lent.ram, &lent.store, &mut lent.line, off));
     }
-    black_box(chip.draw(&lent.ram, &lent.store, &mut lent.line));
     let address = u64::from(chip.sound.channels[0].address);
     let add = |sum: u64, &entry: &u8| sum.wrapping_mul(31).wrapping_add(entry.into());
     lent.line.iter().fold(address, add) & 0xFFFF_FFFF

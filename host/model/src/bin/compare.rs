@@ -1,14 +1,15 @@
 //! Compares the core with the model: `compare [CALLS [SEED]]`, by default one
-//! million calls from seed 1. Every word is printed, read and mended too, a text for
-//! every five calls, a take for every ten and a list mended for every fifty; for every
-//! hundred a session is recorded and its takes played, and a list played on both beside
-//! what it is mended to.
+//! million calls from seed 1. The line's call is made with buffers of every other
+//! length too; every word is printed, read and mended, a text for every five calls, a
+//! take for every ten and a list mended for every fifty; for every hundred a session
+//! is recorded and its takes played, and a list played on both beside what it is
+//! mended to.
 
 use std::env;
 use std::process::ExitCode;
 use std::time::Instant;
 
-use model::compare::{compare, listing, mend, replay, take};
+use model::compare::{compare, line, listing, mend, replay, take};
 use model::Model;
 use plus::Chip;
 
@@ -41,6 +42,8 @@ fn main() -> ExitCode {
 fn compared(count: u64, seed: u64) -> Result<(), String> {
     let tally = compare::<Model>(count, seed).map_err(|difference| difference.to_string())?;
     print!("{tally}");
+    let [_, lengths, _, _, mode, ..] = line::refusals::<Model>()?.answers;
+    println!("lines refused with 1 by {lengths} sets of lengths and modes, with 4 by {mode}");
     listing::each_word::<Model>()?;
     let answers = listing::changed_texts::<Model>(count / 5, seed)?;
     println!("{} texts, {} of them refused 7", count / 5, answers[7]);

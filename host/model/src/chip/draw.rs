@@ -77,8 +77,8 @@ impl Sprite {
 }
 
 impl Model {
-    /// Gives each of the 640 bytes a palette entry.
-    pub fn draw(&self, ram: &[u8], store: &[u8], line: &mut [u8]) -> u8 {
+    /// Gives each of the 640 bytes a palette entry, or says why it doesn't.
+    pub(super) fn draw(&self, ram: &[u8], store: &[u8], line: &mut [u8]) -> u8 {
         if ram.len() != RAM || store.len() != STORE || line.len() != LINE {
             return answer::WRONG_LENGTH;
         }

@@ -1,23 +1,34 @@
-//! One line: sound, raster compare, split compare, counters.
+//! One line: drawn, and then stepped.
 
-use super::{answer, Access, Did, Model, Report, RAM};
+use super::{answer, Access, Did, Model, Report};
 
 impl Model {
-    pub fn step(&mut self, ram: &[u8], accesses: [Access; 3]) -> (u8, Report) {
-        if ram.len() != RAM {
-            return (
-                answer::WRONG_LENGTH,
-                Report {
-                    cycles: 0,
-                    did: [Did::SatOut; 3],
-                },
-            );
+    /// Draws the current line and steps it. What can't be drawn isn't stepped.
+    pub fn line(
+        &mut self,
+        ram: &[u8],
+        store: &[u8],
+        line: &mut [u8],
+        accesses: [Access; 3],
+    ) -> (u8, Report) {
+        let number = self.draw(ram, store, line);
+        if number != answer::DONE {
+            let report = Report {
+                cycles: 0,
+                did: [Did::SatOut; 3],
+            };
+            return (number, report);
         }
+        (number, self.step(ram, accesses))
+    }
+
+    /// Sound, raster compare, split compare, counters. RAM has its length.
+    pub(super) fn step(&mut self, ram: &[u8], accesses: [Access; 3]) -> Report {
         let report = self.sound.line(ram, accesses);
         self.compare_raster();
         self.compare_split();
         self.count();
-        (answer::DONE, report)
+        report
     }
 
     fn compare_raster(&mut self) {

@@ -43,19 +43,16 @@ pub enum Call {
         out: usize,
     },
     Acknowledge,
-    Step {
+    Line {
         ram: usize,
+        store: usize,
+        line: usize,
         accesses: [Access; 3],
     },
     Forecast {
         ram: usize,
         start: u16,
         prescale: u8,
-    },
-    Draw {
-        ram: usize,
-        store: usize,
-        line: usize,
     },
     /// No call: the host puts a byte into RAM.
     Ram {
@@ -89,7 +86,7 @@ impl Reply {
 }
 
 impl Call {
-    pub const NAMES: [&'static str; 13] = [
+    pub const NAMES: [&'static str; 12] = [
         "reset",
         "write_bc",
         "write_bd",
@@ -100,9 +97,8 @@ impl Call {
         "undo",
         "export",
         "acknowledge",
-        "step",
+        "line",
         "forecast",
-        "draw",
     ];
 
     /// Its place among the names; a byte put into RAM is no call.
@@ -118,9 +114,8 @@ impl Call {
             Call::Undo { .. } => Some(7),
             Call::Export { .. } => Some(8),
             Call::Acknowledge => Some(9),
-            Call::Step { .. } => Some(10),
+            Call::Line { .. } => Some(10),
             Call::Forecast { .. } => Some(11),
-            Call::Draw { .. } => Some(12),
             Call::Ram { .. } => None,
         }
     }
@@ -162,8 +157,14 @@ impl Call {
                 let (number, vector) = machine.acknowledge();
                 Reply::Byte(number, vector)
             }
-            Call::Step { ram, accesses } => {
-                let (number, report) = machine.step(&lent.ram[..ram], accesses);
+            Call::Line {
+                ram,
+                store,
+                line,
+                accesses,
+            } => {
+                let (ram, store) = (&lent.ram[..ram], &lent.store[..store]);
+                let (number, report) = machine.line(ram, store, &mut lent.line[..line], accesses);
                 Reply::Line(number, report)
             }
             Call::Forecast {
@@ -171,11 +172,6 @@ impl Call {
                 start,
                 prescale,
             } => Reply::Length(M::forecast(&lent.ram[..ram], start, prescale)),
-            Call::Draw { ram, store, line } => Reply::Answer(machine.draw(
-                &lent.ram[..ram],
-                &lent.store[..store],
-                &mut lent.line[..line],
-            )),
             Call::Ram { address, byte } => {
                 lent.ram[address as usize] = byte;
                 Reply::Nothing

@@ -48,12 +48,12 @@ impl Writer {
             10..=19 => self.page_writes(),
             20..=26 => self.page_reads(),
             27..=29 => self.play(),
-            30..=35 => self.steps(24),
+            30..=35 => self.lines(24),
             36..=38 => self.acknowledges(),
             39..=42 => self.forecast(),
             43 => self.ram_bytes(),
             44..=46 => self.ports(),
-            47..=48 => self.draw(),
+            47..=48 => self.line(),
             49..=51 => self.undos(6),
             52 => self.export(),
             53 if self.random.chance(2) => self.editing(),
@@ -166,7 +166,7 @@ impl Writer {
             };
             self.page_write(address, byte as u8);
         }
-        self.steps(60);
+        self.lines(60);
     }
 
     /// A table, often the same one.
@@ -201,9 +201,14 @@ impl Writer {
 
     /// The right length but for one time in 24.
     fn length(&mut self, right: usize) -> usize {
-        if !self.random.chance(24) {
-            return right;
+        match self.random.chance(24) {
+            true => self.another(right),
+            false => right,
         }
+    }
+
+    /// A length that is hardly ever the right one.
+    fn another(&mut self, right: usize) -> usize {
         match self.random.below(6) {
             0 => 0,
             1 => right - 1,
@@ -255,7 +260,7 @@ impl Writer {
         for _ in 0..100 + self.random.below(150) {
             match self.random.below(12) {
                 0 => self.undos(4),
-                1 => self.steps(2),
+                1 => self.lines(2),
                 2 => self.export(),
                 _ => self.page_writes(),
             }
@@ -279,12 +284,33 @@ impl Writer {
         }
     }
 
-    fn steps(&mut self, most: u64) {
-        for _ in 0..1 + self.random.below(most) {
-            let ram = self.length(RAM);
-            let accesses = any_accesses(&mut self.random);
-            self.push(Call::Step { ram, accesses });
+    /// Some lines, seldom in mode 3.
+    fn lines(&mut self, most: u64) {
+        if !self.random.chance(4) {
+            let mode = self.random.below(3) as u8;
+            self.push(Call::Write7f(0x80 | mode));
         }
+        for _ in 0..1 + self.random.below(most) {
+            self.line();
+        }
+    }
+
+    /// A line in the mode that it finds. One time in 12 a buffer may have another
+    /// length, or two of them, or all.
+    fn line(&mut self) {
+        let others = self.random.chance(12);
+        let [ram, store, line] =
+            [RAM, STORE, LINE].map(|right| match others && self.random.chance(2) {
+                true => self.another(right),
+                false => right,
+            });
+        let accesses = any_accesses(&mut self.random);
+        self.push(Call::Line {
+            ram,
+            store,
+            line,
+            accesses,
+        });
     }
 
     fn acknowledges(&mut self) {
@@ -331,7 +357,7 @@ impl Writer {
         self.page_write(0x6C02 + 4 * channel, prescale);
         let others = self.random.byte() & self.random.byte();
         self.page_write(0x6C0F, others | 1 << channel);
-        self.steps(60);
+        self.lines(60);
     }
 
     fn forecast(&mut self) {
@@ -356,12 +382,5 @@ impl Writer {
             let (address, byte) = (self.list_start(), self.random.byte());
             self.push(Call::Ram { address, byte });
         }
-    }
-
-    fn draw(&mut self) {
-        let ram = self.length(RAM);
-        let store = self.length(STORE);
-        let line = self.length(LINE);
-        self.push(Call::Draw { ram, store, line });
     }
 }

@@ -7,8 +7,9 @@ use super::script::buffers;
 use super::{differ, Buffers, Call};
 use crate::machine::{Machine, Replay};
 use crate::random::{changed_take, Random};
+use crate::under_test::UnderTest;
 use plus::take::{file_of, kind, Noted, Record, Recorder, Take, COUNTS};
-use plus::{Access, Answer, Chip, Editor, Table, RAM, STORE};
+use plus::{Answer, Chip, Editor, Table, RAM, STORE};
 
 /// How many takes were played, what they answered, and how often each number
 /// refused a call.
@@ -83,7 +84,7 @@ fn in_a_take(call: &Call) -> bool {
     !matches!(call, Call::Reset | Call::Ram { .. })
 }
 
-/// Makes a call on a recorder; whether it was a served line step.
+/// Makes a call on a recorder; whether a line has passed.
 pub fn note(call: Call, recorder: &mut Recorder, lent: &mut Buffers) -> bool {
     match call {
         Call::WriteBc(byte) => recorder.write_bc(byte),
@@ -107,15 +108,23 @@ pub fn note(call: Call, recorder: &mut Recorder, lent: &mut Buffers) -> bool {
         }
         Call::Undo { editor, store } => recorder.undo(editor, &mut lent.store[..store]),
         Call::Acknowledge => recorder.acknowledge().0,
-        Call::Step { ram, accesses } => {
-            return recorder.step(&lent.ram[..ram], accesses).0 == Answer::Done
+        Call::Line {
+            ram,
+            store,
+            line,
+            accesses,
+        } => {
+            let (ram, store) = (&lent.ram[..ram], &lent.store[..store]);
+            let line = &mut lent.line[..line];
+            return recorder.line(ram, store, line, accesses).0 == Answer::Done;
         }
         _ => Answer::Done,
     };
     false
 }
 
-/// The records of all calls, as if each buffer had its length.
+/// The records of all calls, as if each buffer had its length and lines passed in
+/// mode 3 too.
 fn records_of(calls: &[Call]) -> Vec<Record> {
     let mut line = 0;
     let mut records = Vec::new();
@@ -139,7 +148,7 @@ fn records_of(calls: &[Call]) -> Vec<Record> {
                 Editor::Song => (kind::UNDO, 0, 0),
                 Editor::Picture => (kind::PICTURE_UNDO, 0, 0),
             },
-            Call::Step { .. } => {
+            Call::Line { .. } => {
                 line += 1;
                 continue;
             }
@@ -213,7 +222,7 @@ impl Tally {
 
         // The recorder's last lines have no call behind them.
         for _ in core.replay.lines..lines {
-            let _ = core.replay.chip.step(&lent.ram[..RAM], [Access::Off; 3]);
+            core.replay.chip.lines(1, ram);
         }
         core.replay.lines = lines;
         let expected = Replay {

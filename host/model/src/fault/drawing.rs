@@ -1,38 +1,45 @@
 //! Faults of the drawn line.
 
-use crate::machine::Fault;
-use plus::{Answer, Chip};
+use plus::Answer;
 
-/// The highest-numbered opaque sprite is shown.
-pub struct HighestSpriteFirst;
-
-impl Fault for HighestSpriteFirst {
-    fn draw(chip: &mut Chip, ram: &[u8], store: &[u8], line: &mut [u8]) -> Answer {
+lines! {
+    /// The highest-numbered opaque sprite is shown.
+    HighestSpriteFirst: |chip, lent| {
         let mut turned = chip.clone();
         turned.sprites.reverse();
-        let pixels: Vec<u8> = store.rchunks(256).flatten().copied().collect();
-        turned.draw(ram, &pixels, line)
-    }
-}
+        let pixels: Vec<u8> = lent.store.rchunks(256).flatten().copied().collect();
+        lent.drawn_of(chip, turned, &pixels)
+    };
 
-/// Soft scroll by 3 bits.
-pub struct ScrollOf3Bits;
-
-impl Fault for ScrollOf3Bits {
-    fn draw(chip: &mut Chip, ram: &[u8], store: &[u8], line: &mut [u8]) -> Answer {
+    /// Soft scroll by 3 bits.
+    ScrollOf3Bits: |chip, lent| {
         let mut scrolled = chip.clone();
         scrolled.video.sscr &= 0xF7;
-        scrolled.draw(ram, store, line)
-    }
-}
+        lent.drawn_of(chip, scrolled, lent.store)
+    };
 
-/// Mode 3 is drawn as mode 2.
-pub struct ModeThreeDrawn;
+    /// The line drawn is the one that is stepped to.
+    SteppedBeforeDrawn: |chip, lent| {
+        let called = lent.undrawn(chip);
+        let _ = lent.call(&mut chip.clone());
+        called
+    };
 
-impl Fault for ModeThreeDrawn {
-    fn draw(chip: &mut Chip, ram: &[u8], store: &[u8], line: &mut [u8]) -> Answer {
-        let mut drawn = chip.clone();
-        drawn.gate.mode = drawn.gate.mode.min(2);
-        drawn.draw(ram, store, line)
-    }
+    /// A line in mode 3 is served, and drawn as in mode 2.
+    ModeThreeDrawn: |chip, lent| {
+        let mode = chip.gate.mode;
+        chip.gate.mode = mode.min(2);
+        let called = lent.call(chip);
+        chip.gate.mode = mode;
+        called
+    };
+
+    /// A line that is refused is all border.
+    DrawnThoughRefused: |chip, lent| {
+        let called = lent.call(chip);
+        if called.0 != Answer::Done {
+            lent.line.fill(16);
+        }
+        called
+    };
 }

@@ -1,75 +1,112 @@
-//! Faults of the raster, the split and the counters.
+//! Faults of the raster, the split and the counters, and of a line that is refused.
 
-use crate::machine::Fault;
-use plus::{Access, Answer, Chip, Report, RAM};
+use crate::under_test::IDLE;
+use plus::{Answer, LINE, RAM, STORE};
 
-/// A step that is refused steps all the same.
-pub struct SteppedThoughRefused;
-
-impl Fault for SteppedThoughRefused {
-    fn step(chip: &mut Chip, ram: &[u8], accesses: [Access; 3]) -> (Answer, Report) {
-        let stepped = chip.step(ram, accesses);
-        if stepped.0 != Answer::Done {
-            let _ = chip.step(&[0; RAM], accesses);
+lines! {
+    /// A line that is refused is stepped all the same.
+    SteppedThoughRefused: |chip, lent| {
+        let called = lent.call(chip);
+        if called.0 != Answer::Done {
+            lent.stepped(chip);
         }
-        stepped
-    }
-}
+        called
+    };
 
-/// An adjust line raises the raster interrupt too.
-pub struct RasterInAdjust;
+    /// It is stepped if the pixel store alone has another length.
+    SteppedWithOtherStore: |chip, lent| {
+        let called = lent.call(chip);
+        if lent.store.len() != STORE && lent.ram.len() == RAM {
+            lent.stepped(chip);
+        }
+        called
+    };
 
-impl Fault for RasterInAdjust {
-    fn step(chip: &mut Chip, ram: &[u8], accesses: [Access; 3]) -> (Answer, Report) {
+    /// It is stepped if the line alone has another length.
+    SteppedWithOtherLine: |chip, lent| {
+        let called = lent.call(chip);
+        if lent.line.len() != LINE && lent.ram.len() == RAM {
+            lent.stepped(chip);
+        }
+        called
+    };
+
+    /// It is stepped in mode 3.
+    SteppedInModeThree: |chip, lent| {
+        let called = lent.call(chip);
+        if called.0 == Answer::ModeThree {
+            lent.stepped(chip);
+        }
+        called
+    };
+
+    /// Mode 3 is tested before the lengths.
+    ModeBeforeLengths: |chip, lent| {
+        if chip.gate.mode == 3 {
+            return (Answer::ModeThree, IDLE);
+        }
+        lent.call(chip)
+    };
+
+    /// A line that is refused is told with its cycles.
+    CyclesThoughRefused: |chip, lent| {
+        let (answer, mut report) = lent.call(chip);
+        if answer != Answer::Done {
+            report.cycles = lent.stepped(&mut chip.clone()).cycles;
+        }
+        (answer, report)
+    };
+
+    /// A line that is served is told as if all had sat out, at no cost.
+    ReportLost: |chip, lent| {
+        let (answer, _) = lent.call(chip);
+        (answer, IDLE)
+    };
+
+    /// An adjust line raises the raster interrupt too.
+    RasterInAdjust: |chip, lent| {
         let mut outside = chip.clone();
         outside.crtc.counters.adjust = false;
-        let _ = outside.step(ram, accesses);
-        let stepped = chip.step(ram, accesses);
+        let _ = lent.undrawn(&mut outside);
+        let called = lent.call(chip);
         chip.interrupts.raster = outside.interrupts.raster;
-        stepped
-    }
-}
+        called
+    };
 
-/// The split is captured on adjust lines with RC of 8 or more.
-pub struct SplitLateInAdjust;
-
-impl Fault for SplitLateInAdjust {
-    fn step(chip: &mut Chip, ram: &[u8], accesses: [Access; 3]) -> (Answer, Report) {
-        let counters = chip.crtc.counters;
+    /// The split is captured on adjust lines with RC of 8 or more.
+    SplitLateInAdjust: |chip, lent| {
+        let (before, counters) = (**chip, chip.crtc.counters);
         let here = counters.vc % 32 * 8 + counters.rc % 8;
         if counters.adjust && chip.video.split_line != 0 && chip.video.split_line == here {
             let split = [chip.video.split_low, chip.video.split_high];
             chip.crtc.counters.held = true;
             chip.crtc.counters.split = u16::from_le_bytes(split);
         }
-        chip.step(ram, accesses)
-    }
-}
+        let called = lent.call(chip);
+        if called.0 != Answer::Done {
+            **chip = before;
+        }
+        called
+    };
 
-/// A held split address is used on a frame's first line.
-pub struct SplitOnFirstLine;
-
-impl Fault for SplitOnFirstLine {
-    fn step(chip: &mut Chip, ram: &[u8], accesses: [Access; 3]) -> (Answer, Report) {
-        let stepped = chip.step(ram, accesses);
+    /// A held split address is used on a frame's first line.
+    SplitOnFirstLine: |chip, lent| {
+        let called = lent.call(chip);
         let counters = &mut chip.crtc.counters;
-        if stepped.0 == Answer::Done && counters.held {
+        if called.0 == Answer::Done && counters.held {
             counters.address = counters.split;
             (counters.held, counters.split) = (false, 0);
         }
-        stepped
-    }
-}
+        called
+    };
 
-/// A row advances by RC alone, whatever the soft scroll.
-pub struct AdvanceByRcAlone;
-
-impl Fault for AdvanceByRcAlone {
-    fn step(chip: &mut Chip, ram: &[u8], accesses: [Access; 3]) -> (Answer, Report) {
-        let sscr = chip.video.sscr;
-        chip.video.sscr = 0;
-        let stepped = chip.step(ram, accesses);
-        chip.video.sscr = sscr;
-        stepped
-    }
+    /// A row advances by RC alone, whatever the soft scroll.
+    AdvanceByRcAlone: |chip, lent| {
+        let mut unscrolled = chip.clone();
+        unscrolled.video.sscr = 0;
+        let _ = lent.undrawn(&mut unscrolled);
+        let called = lent.call(chip);
+        chip.crtc.counters.address = unscrolled.crtc.counters.address;
+        called
+    };
 }

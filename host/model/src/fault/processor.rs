@@ -1,14 +1,15 @@
 //! Faults of what the processor takes from a line, and of the forecast's two
 //! numbers of cycles.
 
+use super::lent::Lent;
 use crate::machine::Fault;
 use plus::{kind, Access, Answer, Chip, Length, Report};
 
-/// A step in which a channel that is reported to have done one of these things
+/// A line in which a channel that is reported to have done one of these things
 /// costs more by what the processor does.
-fn disturbed(chip: &mut Chip, ram: &[u8], accesses: [Access; 3], kinds: &[u8]) -> (Answer, Report) {
-    let (answer, mut report) = chip.step(ram, accesses);
-    for (reported, access) in report.kinds.into_iter().zip(accesses) {
+fn disturbed(chip: &mut Chip, lent: &mut Lent, kinds: &[u8]) -> (Answer, Report) {
+    let (answer, mut report) = lent.call(chip);
+    for (reported, access) in report.kinds.into_iter().zip(lent.accesses) {
         if kinds.contains(&reported) {
             report.cycles += access as u8;
         }
@@ -16,78 +17,48 @@ fn disturbed(chip: &mut Chip, ram: &[u8], accesses: [Access; 3], kinds: &[u8]) -
     (answer, report)
 }
 
-/// A PAUSE is disturbed like a LOAD.
-pub struct PauseDisturbed;
+lines! {
+    /// A PAUSE is disturbed like a LOAD.
+    PauseDisturbed: |chip, lent| disturbed(chip, lent, &[kind::PAUSE]);
 
-impl Fault for PauseDisturbed {
-    fn step(chip: &mut Chip, ram: &[u8], accesses: [Access; 3]) -> (Answer, Report) {
-        disturbed(chip, ram, accesses, &[kind::PAUSE])
-    }
-}
+    /// So are the words that are neither.
+    OthersDisturbed: |chip, lent| {
+        disturbed(chip, lent, &[kind::REPEAT, kind::CONTROL, kind::NOTHING])
+    };
 
-/// So are the words that are neither.
-pub struct OthersDisturbed;
+    /// A channel that sits out pays for the processor.
+    SatOutDisturbed: |chip, lent| disturbed(chip, lent, &[kind::SAT_OUT]);
 
-impl Fault for OthersDisturbed {
-    fn step(chip: &mut Chip, ram: &[u8], accesses: [Access; 3]) -> (Answer, Report) {
-        let others = [kind::REPEAT, kind::CONTROL, kind::NOTHING];
-        disturbed(chip, ram, accesses, &others)
-    }
-}
-
-/// A channel that sits out pays for the processor.
-pub struct SatOutDisturbed;
-
-impl Fault for SatOutDisturbed {
-    fn step(chip: &mut Chip, ram: &[u8], accesses: [Access; 3]) -> (Answer, Report) {
-        disturbed(chip, ram, accesses, &[kind::SAT_OUT])
-    }
-}
-
-/// Any access takes two cycles.
-pub struct OnTakesTwo;
-
-impl Fault for OnTakesTwo {
-    fn step(chip: &mut Chip, ram: &[u8], accesses: [Access; 3]) -> (Answer, Report) {
-        let taken = |access| match access {
+    /// Any access takes two cycles.
+    OnTakesTwo: |chip, lent| {
+        lent.accesses = lent.accesses.map(|access| match access {
             Access::On => Access::PsgWrite,
             access => access,
-        };
-        chip.step(ram, accesses.map(taken))
-    }
-}
+        });
+        lent.call(chip)
+    };
 
-/// Channel 0's LOAD meets what the processor does for channel 1.
-pub struct AccessOfChannel1;
+    /// Channel 0's LOAD meets what the processor does for channel 1.
+    AccessOfChannel1: |chip, lent| {
+        lent.accesses[0] = lent.accesses[1];
+        lent.call(chip)
+    };
 
-impl Fault for AccessOfChannel1 {
-    fn step(chip: &mut Chip, ram: &[u8], accesses: [Access; 3]) -> (Answer, Report) {
-        let [_, second, third] = accesses;
-        chip.step(ram, [second, second, third])
-    }
-}
+    /// Every line is as if the processor were off the 8255.
+    AccessesIgnored: |chip, lent| {
+        lent.accesses = [Access::Off; 3];
+        lent.call(chip)
+    };
 
-/// Every line is as if the processor were off the 8255.
-pub struct AccessesIgnored;
-
-impl Fault for AccessesIgnored {
-    fn step(chip: &mut Chip, ram: &[u8], _: [Access; 3]) -> (Answer, Report) {
-        chip.step(ram, [Access::Off; 3])
-    }
-}
-
-/// What the processor writes to the PSG takes the place of what is loaded.
-pub struct LoadLost;
-
-impl Fault for LoadLost {
-    fn step(chip: &mut Chip, ram: &[u8], accesses: [Access; 3]) -> (Answer, Report) {
+    /// What the processor writes to the PSG takes the place of what is loaded.
+    LoadLost: |chip, lent| {
         let psg = chip.sound.psg;
-        let stepped = chip.step(ram, accesses);
-        if accesses.contains(&Access::PsgWrite) {
+        let called = lent.call(chip);
+        if lent.accesses.contains(&Access::PsgWrite) {
             chip.sound.psg = psg;
         }
-        stepped
-    }
+        called
+    };
 }
 
 /// Of the most cycles a LOAD in a loop counts once.

@@ -2,8 +2,9 @@
 
 use crate::by_hand::ByHand;
 use crate::machine::Fault;
+use crate::under_test::UnderTest;
 use plus::take::{kind, open, record_at, replay, Record, Replayed, Take};
-use plus::{Access, Answer, Chip, Table};
+use plus::{Answer, Chip, Table};
 
 /// Plays a take that is served by other rules, from a chip after reset.
 fn played_by(
@@ -116,7 +117,7 @@ impl Fault for OneLineMore {
         played_by(ram, store, table, file, |by_hand, records| {
             for record in records {
                 if by_hand.lines < record.line {
-                    let _ = by_hand.chip.step(ram, [Access::Off; 3]);
+                    by_hand.chip.step_in_any_mode(ram);
                 }
                 by_hand.play(record);
             }

@@ -1,18 +1,18 @@
 //! Faults of the channels and of the forecast.
 
+use super::lent::Lent;
 use crate::machine::Fault;
-use plus::{kind, Access, Answer, Chip, Length, Report};
+use plus::{kind, Answer, Chip, Length, Report};
 
-/// A step, and then the loop counter of each channel that met a REPEAT K made
+/// A line, and then the loop counter of each channel that met a REPEAT K made
 /// anew, from its counter before and K.
 fn recounted(
     chip: &mut Chip,
-    ram: &[u8],
-    accesses: [Access; 3],
+    lent: &mut Lent,
     counter: impl Fn(u16, u16) -> u16,
 ) -> (Answer, Report) {
     let before = chip.sound.channels;
-    let (answer, report) = chip.step(ram, accesses);
+    let (answer, report) = lent.call(chip);
     for (n, channel) in chip.sound.channels.iter_mut().enumerate() {
         if report.kinds[n] == kind::REPEAT {
             channel.counter = counter(before[n].counter, report.lows[n]);
@@ -21,47 +21,26 @@ fn recounted(
     (answer, report)
 }
 
-/// The body of REPEAT K runs K times.
-pub struct RepeatKTimes;
+lines! {
+    /// The body of REPEAT K runs K times.
+    RepeatKTimes: |chip, lent| recounted(chip, lent, |_, k| k.saturating_sub(1));
 
-impl Fault for RepeatKTimes {
-    fn step(chip: &mut Chip, ram: &[u8], accesses: [Access; 3]) -> (Answer, Report) {
-        recounted(chip, ram, accesses, |_, k| k.saturating_sub(1))
-    }
-}
+    /// An inner REPEAT leaves an outer one's count.
+    OuterCountKept: |chip, lent| {
+        recounted(chip, lent, |outer, k| if outer == 0 { k } else { outer })
+    };
 
-/// An inner REPEAT leaves an outer one's count.
-pub struct OuterCountKept;
-
-impl Fault for OuterCountKept {
-    fn step(chip: &mut Chip, ram: &[u8], accesses: [Access; 3]) -> (Answer, Report) {
-        recounted(
-            chip,
-            ram,
-            accesses,
-            |outer, k| if outer == 0 { k } else { outer },
-        )
-    }
-}
-
-/// The PSG has 8 registers.
-pub struct EightRegisters;
-
-impl Fault for EightRegisters {
-    fn step(chip: &mut Chip, ram: &[u8], accesses: [Access; 3]) -> (Answer, Report) {
+    /// The PSG has 8 registers.
+    EightRegisters: |chip, lent| {
         let upper = chip.sound.psg;
-        let stepped = chip.step(ram, accesses);
+        let called = lent.call(chip);
         chip.sound.psg[8..].copy_from_slice(&upper[8..]);
-        stepped
-    }
-}
+        called
+    };
 
-/// Channels execute in the order 2, 1, 0.
-pub struct HighestChannelFirst;
-
-impl Fault for HighestChannelFirst {
-    fn step(chip: &mut Chip, ram: &[u8], accesses: [Access; 3]) -> (Answer, Report) {
-        let (answer, report) = chip.step(ram, accesses);
+    /// Channels execute in the order 2, 1, 0.
+    HighestChannelFirst: |chip, lent| {
+        let (answer, report) = lent.call(chip);
         for n in (0..3).rev() {
             if report.kinds[n] == kind::LOAD {
                 let [data, register] = report.lows[n].to_le_bytes();
@@ -69,37 +48,29 @@ impl Fault for HighestChannelFirst {
             }
         }
         (answer, report)
-    }
-}
+    };
 
-/// A PAUSE of 0 sets the line count back.
-pub struct PauseOf0Counts;
-
-impl Fault for PauseOf0Counts {
-    fn step(chip: &mut Chip, ram: &[u8], accesses: [Access; 3]) -> (Answer, Report) {
-        let (answer, report) = chip.step(ram, accesses);
+    /// A PAUSE of 0 sets the line count back.
+    PauseOf0Counts: |chip, lent| {
+        let (answer, report) = lent.call(chip);
         for n in 0..3 {
             if report.kinds[n] == kind::PAUSE {
                 chip.sound.channels[n].count = 0;
             }
         }
         (answer, report)
-    }
-}
+    };
 
-/// A control word is reported as one that does nothing.
-pub struct ControlAsNothing;
-
-impl Fault for ControlAsNothing {
-    fn step(chip: &mut Chip, ram: &[u8], accesses: [Access; 3]) -> (Answer, Report) {
-        let (answer, mut report) = chip.step(ram, accesses);
+    /// A control word is reported as one that does nothing.
+    ControlAsNothing: |chip, lent| {
+        let (answer, mut report) = lent.call(chip);
         for reported in &mut report.kinds {
             if *reported == kind::CONTROL {
                 *reported = kind::NOTHING;
             }
         }
         (answer, report)
-    }
+    };
 }
 
 /// A LOOP in the word of the STOP repeats something.

@@ -1,12 +1,13 @@
 //! Document 01, "Drawing the current line": the border, the refusals, and every
 //! position against a slow reading.
 
-use model::random::{any_state, Random};
+use model::random::{drawable_state, Random};
 use model::under_test::UnderTest;
 use model::{held, Machine};
-use plus::{Sprite, State, LINE, RAM, STORE};
+use plus::{Access, Sprite, State, LINE, RAM, STORE};
 
-held!(lengths_are_refused_and_then_mode_3, fails_with ModeThreeDrawn);
+held!(lengths_are_refused_and_then_mode_3,
+    fails_with ModeThreeDrawn, DrawnThoughRefused, ModeBeforeLengths, SteppedThoughRefused);
 fn lengths_are_refused_and_then_mode_3<M: Machine>() {
     let mut chip = M::framed(38, 0);
     for mode in 0..4 {
@@ -26,11 +27,13 @@ fn lengths_are_refused_and_then_mode_3<M: Machine>() {
         ];
         for (ram, store, length, answer) in cases {
             let mut line = vec![0xEE; length];
-            let answered = chip.draw(&vec![0; ram], &vec![0; store], &mut line);
+            let off = [Access::Off; 3];
+            let (answered, _) = chip.line(&vec![0; ram], &vec![0; store], &mut line, off);
             assert_eq!(answered, answer, "{ram}, {store}, {length} in mode {mode}");
             let left = if answer == 0 { 0 } else { 0xEE };
             assert_eq!(line, vec![left; length]);
-            assert_eq!(chip.state(), before);
+            assert_eq!(chip.state() == before, answer != 0);
+            chip.put(before);
         }
     }
 }
@@ -41,10 +44,10 @@ fn mode_3_is_refused_in_the_border<M: Machine>() {
     let mut chip = M::framed(38, 0);
     assert_eq!(chip.write_7f(0x83), 0);
     chip.register(6, 0);
-    assert_eq!(chip.draw(&[0; RAM], &[0; STORE], &mut [0; LINE]), 4);
+    assert_eq!(chip.plain_step(&[0; RAM]).0, 4);
     chip.register(6, 25);
     chip.change(|state| state.crtc.counters.adjust = true);
-    assert_eq!(chip.draw(&[0; RAM], &[0; STORE], &mut [0; LINE]), 4);
+    assert_eq!(chip.plain_step(&[0; RAM]).0, 4);
 }
 
 // A sprite of 64 positions over pen 1, both cut by R1 and by SSCR bit 7.
@@ -158,8 +161,7 @@ fn entry(state: &State, ram: &[u8], store: &[u8], x: i32) -> u8 {
 /// Any state that can be drawn, in half of the cases with all sprites near its
 /// line.
 fn any_picture(random: &mut Random) -> State {
-    let mut state = any_state(random);
-    state.gate.mode = random.below(3) as u8;
+    let mut state = drawable_state(random);
     if random.chance(2) {
         let counters = state.crtc.counters;
         let height = i16::from(state.crtc.registers.r9) + 1;

@@ -2,7 +2,7 @@
 //! and to lists that are really played.
 
 use crate::played::{off, taken, Played};
-use model::random::{any_accesses, any_list, any_state, Random};
+use model::random::{any_accesses, any_list, drawable_state, Random};
 use model::under_test::{put_words, ram_with, UnderTest};
 use model::{held, Machine};
 use plus::{Access, Answer, Length, RAM};
@@ -209,13 +209,14 @@ struct Ready {
     prescale: u8,
 }
 
-/// Any list, put somewhere into RAM, and any channel of a chip in any state.
+/// Any list, put somewhere into RAM, and any channel of a chip in any state but mode
+/// 3.
 fn ready<M: Machine>(chip: &mut M, ram: &mut [u8], random: &mut Random) -> Ready {
     let words = any_list(random);
     let start = random.below((RAM - 2 * words.len()) as u64) as usize & !1;
     put_words(ram, start, &words);
     let (n, prescale) = (random.below(3) as usize, random.below(4) as u8);
-    let mut state = any_state(random);
+    let mut state = drawable_state(random);
     let channel = &mut state.sound.channels[n];
     channel.enabled = true;
     channel.address = start as u16;

@@ -1,9 +1,9 @@
 //! Document 01, "One line": the counters and the screen address.
 
 use model::random::{any_accesses, any_state, Random};
-use model::under_test::UnderTest;
+use model::under_test::{UnderTest, IDLE};
 use model::{held, Machine};
-use plus::{Answer, Counters, Report, RAM, STORE};
+use plus::{Answer, Counters, RAM, STORE};
 
 /// VC, RC and adjust.
 fn position<M: Machine>(chip: &M) -> (u8, u8, bool) {
@@ -25,17 +25,15 @@ fn a_step_refuses_other_lengths<M: Machine>() {
         }
         let mut chip = M::new();
         chip.put(before);
-        let refused = Report {
-            cycles: 0,
-            kinds: [0; 3],
-            lows: [0; 3],
-        };
         let accesses = any_accesses(&mut random);
         assert_eq!(
             chip.step(&vec![0; length], accesses),
-            (Answer::WrongLength, refused)
+            (Answer::WrongLength, IDLE)
         );
         assert_eq!(chip.state(), before);
+        // In mode 3 too; in another one a line passes on RAM of the right length.
+        before.gate.mode = random.below(3) as u8;
+        chip.put(before);
         assert_eq!(chip.plain_step(&[0; RAM]).0, 0);
         assert_ne!(chip.state(), before);
     }

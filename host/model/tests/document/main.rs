@@ -12,6 +12,7 @@ mod forecast;
 mod interrupts;
 mod kept;
 mod line;
+mod line_call;
 mod listing;
 mod lock;
 mod mend;

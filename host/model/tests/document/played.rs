@@ -1,5 +1,6 @@
 //! Documents 01 and 02: a channel played to its STOP, and what it cost.
 
+use model::under_test::UnderTest;
 use model::Machine;
 use plus::{kind, Access};
 
@@ -30,7 +31,7 @@ pub fn off() -> [Access; 3] {
 #[derive(Clone, Copy, Default)]
 pub struct Played {
     pub lines: u64,
-    /// Its own cycles on these lines, as the steps have told them.
+    /// Its own cycles on these lines, as their calls have told them.
     pub cycles: u64,
     /// How many LOADs it executed, and how many of them the processor disturbed.
     pub loads: u64,

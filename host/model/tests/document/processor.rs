@@ -1,7 +1,7 @@
 //! Document 02, L6: what the processor at the 8255 takes from the LOADs of a line.
 
 use crate::played::taken;
-use model::random::{any_accesses, any_state, any_word, Random};
+use model::random::{any_accesses, any_word, drawable_state, Random};
 use model::under_test::{put_words, ram_with, UnderTest};
 use model::{held, Machine};
 use plus::{kind, Access, Answer, Report, RAM};
@@ -155,7 +155,7 @@ fn all_else_is_the_same_in_every_case<M: Machine>() {
     }
     let mut chip = M::new();
     for _ in 0..1000 {
-        let state = any_state(&mut random);
+        let state = drawable_state(&mut random);
         chip.put(state);
         let (_, plain) = chip.plain_step(&ram);
         let after = chip.state();

@@ -26,10 +26,14 @@ fn drawn<M: Machine>(chip: &mut M, ram: &[u8]) -> Vec<u8> {
     chip.drawn(ram, &[0; STORE])
 }
 
-/// The positions that show pen 1.
-fn ones<M: Machine>(chip: &mut M, ram: &[u8]) -> Vec<usize> {
-    let line = drawn(chip, ram);
+/// The positions of a line that show pen 1.
+fn ones_of(line: &[u8]) -> Vec<usize> {
     (0..LINE).filter(|&x| line[x] == 1).collect()
+}
+
+/// Those of the current line.
+fn ones<M: Machine>(chip: &mut M, ram: &[u8]) -> Vec<usize> {
+    ones_of(&drawn(chip, ram))
 }
 
 // The three numbers of the document, then one bit at a time.
@@ -237,14 +241,14 @@ fn stairs() -> Vec<u8> {
 }
 
 // Scrolled by lines, the pen still moves by one a line, over the row's end too.
-held!(scrolled_by_lines, fails_with AdvanceByRcAlone);
+held!(scrolled_by_lines, fails_with AdvanceByRcAlone, SteppedBeforeDrawn);
 fn scrolled_by_lines<M: Machine>() {
     for scroll in 0..8 {
         let mut chip = screen::<M>(2, 40);
         chip.poke(0x6804, scroll << 4);
         for position in usize::from(scroll)..16 {
-            assert_eq!(ones(&mut chip, &stairs()), [position]);
-            chip.lines(1, &stairs());
+            let line = chip.drawn_and_stepped(&stairs(), &[0; STORE]);
+            assert_eq!(ones_of(&line), [position]);
         }
     }
 }

@@ -5,7 +5,7 @@ use model::random::{any_state, Random};
 use model::under_test::{ram_with, UnderTest};
 use model::{held, Machine};
 use plus::Editor::Song;
-use plus::{EXPORT, RAM, STORE, UNLOCK};
+use plus::{Access, EXPORT, LINE, RAM, STORE, UNLOCK};
 use std::collections::VecDeque;
 
 /// A chip in any state that is drawn, with the page mapped in, and a store of any
@@ -347,9 +347,12 @@ fn the_lost_pressing<M: Machine>() {
     while chip.state().sound.channels[1].enabled {
         assert_eq!(chip.peek(0x6C06, 0), 0x02);
         assert_eq!(chip.exported(), untouched.exported());
-        let drawn = [&mut untouched, &mut chip].map(|chip| chip.drawn(&ram, &[0; STORE]));
-        assert_eq!(drawn[0], drawn[1]);
-        assert_eq!(untouched.plain_step(&ram), chip.plain_step(&ram));
+        let shown = [&mut untouched, &mut chip].map(|chip| {
+            let mut line = [0xEE; LINE];
+            let told = chip.line(&ram, &[0; STORE], &mut line, [Access::Off; 3]);
+            (told, line)
+        });
+        assert_eq!(shown[0], shown[1]);
         lines += 1;
     }
     assert_eq!(lines, 10);

@@ -15,11 +15,12 @@ pub enum Noted {
     Served,
 }
 
-/// A chip that notes the calls made on it as the records of a take, and counts its
-/// line steps. Only writes to the ports and to the page, acknowledges, undos and
-/// starts are ever noted, and refused ones never. Made on a chip after reset, each
-/// after as many line steps as its record says, and with the same RAM, store and
-/// table, the calls noted lead to the same state.
+/// A chip that notes the calls made on it as the records of a take, and counts the
+/// lines that pass: a call of [`line`](Recorder::line) is one if it is served, and
+/// none if it is refused. Only writes to the ports and to the page, acknowledges,
+/// undos and starts are ever noted, and refused ones never. Made on a chip after
+/// reset, each after as many lines as its record says, and with the same RAM, store
+/// and table, the calls noted lead to the same state.
 ///
 /// A take says nothing of a start's table, so that all of them have to give one:
 /// [`given_table`](Recorder::given_table) hands it out beside the records.
@@ -28,16 +29,16 @@ pub enum Noted {
 ///
 /// ```
 /// use plus::take::{kind, Noted, Recorder};
-/// use plus::{Access, Answer, Editor, Table, RAM, STORE, UNLOCK};
+/// use plus::{Access, Answer, Editor, Table, LINE, RAM, STORE, UNLOCK};
 ///
-/// let (ram, mut store) = (vec![0; RAM], vec![0; STORE]);
+/// let (ram, mut store, mut line) = (vec![0; RAM], vec![0; STORE], [0; LINE]);
 /// let mut chip = Recorder::new(Noted::Changes);
 /// for byte in UNLOCK {
 ///     chip.write_bc(byte);
 /// }
 /// chip.write_7f(0xB8).served()?; // maps the register page in
 /// for _ in 0..2 {
-///     let (answer, _report) = chip.step(&ram, [Access::Off; 3]);
+///     let (answer, _report) = chip.line(&ram, &store, &mut line, [Access::Off; 3]);
 ///     answer.served()?;
 /// }
 /// chip.write_7f(0xB8).served()?; // is mapped in already
@@ -61,7 +62,7 @@ pub enum Noted {
 pub struct Recorder {
     chip: Chip,
     noted: Noted,
-    /// Line steps since reset, as long as a record can say them.
+    /// Lines since reset, as long as a record can say them.
     line: Option<u32>,
     /// The table that the first start since reset gave.
     given: Option<Table>,
@@ -170,12 +171,18 @@ impl Recorder {
         self.note(kind, 0, 0, |chip| chip.undo(editor, store))
     }
 
-    /// [`Chip::step`], counted if it is served.
+    /// [`Chip::line`], counted if it is served.
     #[must_use]
-    pub fn step(&mut self, ram: &[u8], accesses: [Access; 3]) -> (Answer, Report) {
-        let (answer, report) = self.chip.step(ram, accesses);
+    pub fn line(
+        &mut self,
+        ram: &[u8],
+        store: &[u8],
+        line: &mut [u8],
+        accesses: [Access; 3],
+    ) -> (Answer, Report) {
+        let (answer, report) = self.chip.line(ram, store, line, accesses);
         if answer == Answer::Done {
-            self.line = self.line.and_then(|line| line.checked_add(1));
+            self.line = self.line.and_then(|passed| passed.checked_add(1));
         }
         (answer, report)
     }

@@ -24,9 +24,9 @@ pub struct Replayed {
 }
 
 /// Plays a take from reset, record by record: lines are stepped until there are as
-/// many as the record's line number says, and its call is made. The steps have the
-/// processor off the 8255, and draw nothing. A call that is refused is counted and
-/// passed over. The whole take is tested before anything is played; pixels go into
+/// many as the record's line number says, and its call is made. Stepping has the
+/// processor off the 8255 and draws nothing, so that screen mode 3 refuses no line.
+/// A call that is refused is counted and passed over. The whole take is tested before anything is played; pixels go into
 /// the store. Every start of the take gives `table`, which says nothing where the
 /// take has none.
 ///

@@ -1,27 +1,27 @@
 -- The entries are put one by one.
-use mathlib.Core.Path.{_≡_}
+use mathlib.Core.Path.{_≡_, _∙_, ap}
 use mathlib.Core.List.{_++_}
 use Prim.Native.Nat.{ℕ, _+_, _-_, _≤_}
 use borrow.Author.Needs.{needs}
 use lib.ListN.{length, take, getD}
-use Rattle.text.specs.Paint.{characters}
+use Rattle.text.specs.Paint.{character, characters}
 use Rattle.text.proofs.Painting.{entries-none, entries-more, entries-all}
 use Rattle.text.proofs.paint.put_entries.Statement.{statement}
 use Rattle.text.proofs.paint.put_entries.Tie as tie
 
 abbrev Inv-loop : tie.InvT-loop
 Inv-loop out₀ at line i₀ out i =
-    (i ≤ length line) × (length out ≡ length out₀) ×
+    (i ≤ 640) × (length out ≡ length out₀) ×
     (take (at + i) out ≡ take at out₀ ++ characters (λ (x : ℕ). getD line x 0) i)
 
 abbrev μ-loop : tie.MeasureT-loop
-μ-loop out₀ at line i₀ out i = length line - i
+μ-loop out₀ at line i₀ out i = 640 - i
 
 loop-holds : tie.Need-loop-holds Inv-loop μ-loop
 loop-holds c = (search needs, search needs, entries-none _ (c .before .before .args .out .now) (c .before .before .args .at))
 
-shared-slice-read-character : tie.Need-shared-slice-read-character Inv-loop μ-loop
-shared-slice-read-character c = search needs
+byte-at-requires : tie.Need-byte-at-requires Inv-loop μ-loop
+byte-at-requires c κs = search needs
 
 character-requires : tie.Need-character-requires Inv-loop μ-loop
 character-requires c κs = search needs
@@ -43,7 +43,7 @@ loop-again c =
     let l = c .before .before .before .loop in (
       search needs,
       search needs,
-      entries-more _ _ (l .out) _ (l .i) _ (search needs) (c .character .ensures) (l .inv .2),
+      entries-more _ _ (l .out) _ (l .i) _ (search needs) (c .character .ensures ∙ ap character (c .before .byte-at .ensures)) (l .inv .2),
     )
 
 add-result : tie.Need-add-result Inv-loop μ-loop
@@ -64,7 +64,7 @@ put-entries-spec =
     Inv-loop
     μ-loop
     loop-holds
-    shared-slice-read-character
+    byte-at-requires
     character-requires
     add-out
     slice-write-out

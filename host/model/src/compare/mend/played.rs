@@ -2,8 +2,8 @@
 //! a STOP is executed, or the old words are at their end.
 
 use crate::machine::Machine;
-use crate::random::{any_accesses, any_state, old_list, Random};
-use crate::under_test::put_words;
+use crate::random::{any_accesses, drawable_state, old_list, Random};
+use crate::under_test::{put_words, UnderTest};
 use plus::mend::CHANGE;
 use plus::{kind, Access, Answer, Channel, Report, RAM};
 
@@ -145,7 +145,7 @@ impl<M: Machine> Pair<M> {
     /// With a fresh channel at the start.
     fn new(random: &mut Random, start: u16) -> Pair<M> {
         let (n, alone) = (random.below(3) as usize, random.chance(2));
-        let mut states = [any_state(random), any_state(random)];
+        let mut states = [drawable_state(random), drawable_state(random)];
         let fresh = Channel {
             enabled: true,
             address: start,

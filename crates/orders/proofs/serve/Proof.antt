@@ -1,8 +1,8 @@
 -- Each letter's call, and its line.
 use borrow.Author.Needs.{needs}
-use Rattle.calls.proofs.Serving.{by-letter, by-none}
-use Rattle.calls.proofs.serve.Statement.{statement}
-use Rattle.calls.proofs.serve.Tie as tie
+use Rattle.orders.proofs.Letters.{by-letter, by-none}
+use Rattle.orders.proofs.serve.Statement.{statement}
+use Rattle.orders.proofs.serve.Tie as tie
 
 selected-requires : tie.Need-selected-requires
 selected-requires c κs = search needs
@@ -151,11 +151,11 @@ same-length-18 c = search needs
 same-length-19 : tie.Need-same-length-19
 same-length-19 c = search needs
 
-returns-12 : tie.Need-returns-12
-returns-12 c = by-letter 76 (c .before .before .before .before .before .match .keys12) (c .before .before .stepped .ensures _ _ _)
-
 same-length-20 : tie.Need-same-length-20
 same-length-20 c = search needs
+
+returns-12 : tie.Need-returns-12
+returns-12 c = by-letter 76 (c .before .before .before .before .before .before .match .keys12) (c .before .before .stepped .ensures _ _)
 
 same-length-21 : tie.Need-same-length-21
 same-length-21 c = search needs
@@ -163,47 +163,50 @@ same-length-21 c = search needs
 same-length-22 : tie.Need-same-length-22
 same-length-22 c = search needs
 
-returns-13 : tie.Need-returns-13
-returns-13 c = by-letter 80 (c .before .before .before .before .before .before .match .keys13) (c .before .before .painted .ensures _ _)
-
 same-length-23 : tie.Need-same-length-23
 same-length-23 c = search needs
+
+returns-13 : tie.Need-returns-13
+returns-13 c = by-letter 80 (c .before .before .before .before .before .before .match .keys13) (c .before .before .painted .ensures _ _)
 
 same-length-24 : tie.Need-same-length-24
 same-length-24 c = search needs
 
-returns-14 : tie.Need-returns-14
-returns-14 c = by-letter 70 (c .before .before .before .before .before .match .keys14) (c .before .before .foretold .ensures _ _ _)
-
 same-length-25 : tie.Need-same-length-25
 same-length-25 c = search needs
+
+returns-14 : tie.Need-returns-14
+returns-14 c = by-letter 70 (c .before .before .before .before .before .match .keys14) (c .before .before .foretold .ensures _ _ _)
 
 same-length-26 : tie.Need-same-length-26
 same-length-26 c = search needs
 
-returns-15 : tie.Need-returns-15
-returns-15 c = by-letter 77 (c .before .before .before .before .before .before .before .match .keys15) (c .before .before .before .before .poked .ensures _ _ _)
-
 same-length-27 : tie.Need-same-length-27
 same-length-27 c = search needs
 
-returns-16 : tie.Need-returns-16
-returns-16 c = by-letter 84 (c .before .before .before .before .match .keys16) (c .before .before .kept-waiting .ensures _ _ _ _)
+returns-15 : tie.Need-returns-15
+returns-15 c = by-letter 77 (c .before .before .before .before .before .before .before .match .keys15) (c .before .before .before .before .poked .ensures _ _ _)
 
 same-length-28 : tie.Need-same-length-28
 same-length-28 c = search needs
 
-returns-17 : tie.Need-returns-17
-returns-17 c = by-letter 83 (c .before .before .before .before .match .keys17) (c .before .before .started .ensures _ _ _ _)
+returns-16 : tie.Need-returns-16
+returns-16 c = by-letter 84 (c .before .before .before .before .match .keys16) (c .before .before .kept-waiting .ensures _ _ _ _)
 
 same-length-29 : tie.Need-same-length-29
 same-length-29 c = search needs
 
-returns-18 : tie.Need-returns-18
-returns-18 c = by-letter 90 (c .before .before .before .before .match .keys18) (c .before .before .reset .ensures _ _ _ _)
+returns-17 : tie.Need-returns-17
+returns-17 c = by-letter 83 (c .before .before .before .before .match .keys17) (c .before .before .started .ensures _ _ _ _)
 
 same-length-30 : tie.Need-same-length-30
 same-length-30 c = search needs
+
+returns-18 : tie.Need-returns-18
+returns-18 c = by-letter 90 (c .before .before .before .before .match .keys18) (c .before .before .reset .ensures _ _ _ _)
+
+same-length-31 : tie.Need-same-length-31
+same-length-31 c = search needs
 
 returns-19 : tie.Need-returns-19
 returns-19 c = by-none (c .before .before .before .before .match .rest) (c .before .before .not-known .ensures _ _ _ _)
@@ -261,22 +264,23 @@ serve-spec =
     returns-11
     same-length-18
     same-length-19
-    returns-12
     same-length-20
+    returns-12
     same-length-21
     same-length-22
-    returns-13
     same-length-23
+    returns-13
     same-length-24
-    returns-14
     same-length-25
+    returns-14
     same-length-26
-    returns-15
     same-length-27
-    returns-16
+    returns-15
     same-length-28
-    returns-17
+    returns-16
     same-length-29
-    returns-18
+    returns-17
     same-length-30
+    returns-18
+    same-length-31
     returns-19)

@@ -1,0 +1,2 @@
+-- 02, L11: one call for a line.
+pub mod Contract

@@ -1,0 +1,2 @@
+-- What a letter asks for.
+pub mod Letters

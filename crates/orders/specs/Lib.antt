@@ -1,0 +1,2 @@
+-- What an order of a scene asks for.
+pub mod Letters
