@@ -8,8 +8,9 @@
  * that could be linked with another library than its header's asks plus_fits first.
  *
  * A buffer is a pointer, never NULL, and its length: PLUS_RAM bytes for RAM, PLUS_STORE for the sprite pixel store, PLUS_LINE for
- * a drawn line, PLUS_EXPORT for an export. A text and a take have any number of bytes, and the length of sound words, of
- * records and of a report's numbers is counted in these. The buffers of one call must not overlap.
+ * a drawn line, PLUS_EXPORT for an export. A text, a take and a list to be placed have any number of bytes, and the length of sound
+ * words, of records and of a report's numbers is counted in these. The buffers of one call must not overlap. RAM is written by
+ * plus_place alone, and all other calls only read it.
  *
  * Two editors work on one chip: page read, page write and undo take the number of the one that makes them, PLUS_SONG or
  * PLUS_PICTURE. plus_start gives a table of which of them may write what: bit n of its numbers is palette entry (both bytes),
@@ -34,6 +35,15 @@
  * The entry then has the contents from before the gesture, and one undo brings them back. Between two events that editor may make
  * no other page write, since undo would take back that one. DCSR is not kept, so it needs none of this.
  *
+ * Sound lists can be placed in RAM, as many as PLUS_LISTS at a time, within an area that plus_area gives once and a reset forgets.
+ * Where they are stands in PLUS_LISTS numbers, which a host keeps beside the chip too: it lends them, as the last call left them, to
+ * each plus_place and plus_remove of that chip. They need not be set at first, nor after a reset. If bit h of editing.lists.used is
+ * set, handle h has a list, and number h says where: from number / 32768 * 2 up to but not at (number % 32768 + 1) * 2.
+ *
+ * A list that an enabled channel has in use can't be removed: the channel's address lies in it; or it has passes of a loop left,
+ * and its mark does, or some word from a mark below its address up to that. Nothing else is kept for a channel: not what it comes
+ * to in a later list, nor what it plays outside of the lists, which the next list may be put over, nor anything while it is off.
+ *
  * A take is a file: a comment of any bytes, records of PLUS_TAKE_RECORD bytes, and a trailer of PLUS_TAKE_TRAILER bytes, which has
  * the record count, the offset of the first record, 4 bytes each, and the letters PLTK. A record has the line number in 4 bytes,
  * the kind in 1, the address in 2 and the value in 1. All numbers stand low byte first. */
@@ -51,10 +61,13 @@ extern "C" {
 /* The version of this header: 10000 times the major number, 100 times the minor one, and the patch. Another patch changes nothing
  * that a caller could see; with another minor or major number a struct may have another layout, the state above all. What each
  * version changes for a caller is in CHANGELOG.md. */
-#define PLUS_VERSION 1200
-#define PLUS_VERSION_TEXT "0.12.0"
+#define PLUS_VERSION 1300
+#define PLUS_VERSION_TEXT "0.13.0"
 
 enum { PLUS_RAM = 65536, PLUS_STORE = 4096, PLUS_LINE = 640, PLUS_EXPORT = 477, PLUS_PLACES = 256 };
+
+/* How many lists an area has handles for: 0 to 63. */
+enum { PLUS_LISTS = 64 };
 
 /* The most bytes that a word's line of text has, its LF with them: `LOOP+INT+STOP`. */
 enum { PLUS_LONGEST_LINE = 14 };
@@ -84,7 +97,12 @@ enum {
     PLUS_NO_ROOM = 14,          /* the buffer has no room for the take, or its count or offset has no room in 4 bytes */
     PLUS_NOT_YOURS = 15,        /* the register is not this editor's; no other number applies where this one does */
     PLUS_NO_ROOM_FOR_STOP = 16, /* no word in use has STOP, and the buffer has no room for one after them */
-    PLUS_REPORT_TOO_SMALL = 17  /* the report has no room for all changes */
+    PLUS_REPORT_TOO_SMALL = 17, /* the report has no room for all changes */
+    PLUS_WRONG_AREA = 18,       /* bounds that no area has, an area that was given or is yet to be, or a length that no list has */
+    PLUS_ALL_PLACED = 19,       /* every handle has a list */
+    PLUS_NO_GAP = 20,           /* no gap of the area is as long as the list */
+    PLUS_NO_HANDLE = 21,        /* no list has this handle */
+    PLUS_LIST_IN_USE = 22       /* an enabled channel has the list in use */
 };
 
 /* What a channel did on a line. */
@@ -202,8 +220,14 @@ typedef struct {
 } PlusHeld;
 
 typedef struct {
+    uint64_t used;       /* bit h is set if handle h has a list */
+    uint16_t from, upto; /* how many words lie below the lower bound and below the higher one; both 0: there is no area */
+} PlusArea;
+
+typedef struct {
     PlusHeld table;
     PlusUndo song, picture; /* each editor's record */
+    PlusArea lists;
 } PlusEditing;
 
 typedef struct {
@@ -243,6 +267,13 @@ typedef struct {
     uint8_t kinds[3]; /* for each channel PLUS_SAT_OUT to PLUS_NOTHING */
     uint16_t lows[3]; /* the low 12 bits of its word, 0 if it sat out */
 } PlusStepped;
+
+typedef struct {
+    PlusChip chip;
+    uint8_t answer;
+    uint32_t address; /* where the list stands now */
+    uint32_t handle;  /* by which it is removed, 0 to PLUS_LISTS - 1 */
+} PlusPlaced;
 
 typedef struct {
     uint8_t answer;
@@ -321,7 +352,7 @@ typedef struct {
 /* What the library was built with. No answer number. */
 PlusBuilt plus_built(void);
 
-/* The chip after reset, with no table and nothing to undo. No answer number: nothing can refuse it. */
+/* The chip after reset, with no table, nothing to undo and no area for lists. No answer number: nothing can refuse it. */
 PlusChip plus_reset(void);
 
 /* A byte to port BCxx: selects a 6845 register and feeds the lock. Answers 0. */
@@ -365,6 +396,21 @@ PlusAcknowledged plus_acknowledge(PlusChip chip);
  * Refused, it does neither, and no line has passed. Answers 0, 1 or 4. */
 PlusStepped plus_line(PlusChip chip, const uint8_t *ram, size_t ram_length, const uint8_t *store, size_t store_length,
                       uint8_t *line, size_t line_length, uint8_t first, uint8_t second, uint8_t third);
+
+/* Gives the area for lists: from `from` up to but not at `upto`, both even, the second above the first and at most PLUS_RAM. It is
+ * given once, and a reset forgets it and its lists; one that was refused can be given again. Answers 0 or 18. */
+PlusAnswered plus_area(PlusChip chip, uint32_t from, uint32_t upto);
+
+/* Places a list: its bytes are copied into RAM, to the lowest even address at which all of it is within the area and between the
+ * lists there, and no other byte of RAM changes. Its handle is the lowest that is free. The list must not lie in the lent RAM.
+ * Answers 0; 1 for RAM of another length; 18 with no area, or for a length that is 0, odd or above the area's; 19 or 20; tested in
+ * this order. */
+PlusPlaced plus_place(PlusChip chip, uint32_t places[PLUS_LISTS], uint8_t *ram, size_t ram_length, const uint8_t *list,
+                      size_t list_length);
+
+/* Removes the list of a handle, which is any number: room and handle are free for the next. The bytes in RAM stay. Answers 0, 18
+ * with no area, 21 or 22, tested in this order. */
+PlusAnswered plus_remove(PlusChip chip, const uint32_t places[PLUS_LISTS], uint32_t handle);
 
 /* The grey of a palette entry, 0 to 195, from its two bytes. No answer number. */
 uint8_t plus_grey(uint8_t low, uint8_t high);
@@ -414,7 +460,8 @@ PlusRecordRead plus_take_record(const uint8_t *file, size_t file_length, size_t 
 /* Plays a take from reset, record by record: lines are stepped, with nothing drawn and the processor off the 8255, in any screen
  * mode, until there are as many as the record's line number says, and its call is made. Every start of the take gives this table. A
  * call that is refused is counted and passed over. The whole take is tested before anything is played. The places are then those of
- * the chip it gives, the song editor's and the picture editor's. Answers 0, 1, 11, 12 or 13. */
+ * the chip it gives, the song editor's and the picture editor's. A take has none of the calls on lists, so that chip has no area.
+ * Answers 0, 1, 11, 12 or 13. */
 PlusReplayed plus_replay(const uint8_t *ram, size_t ram_length, uint8_t *store, size_t store_length, uint32_t song[PLUS_PLACES],
                          uint32_t picture[PLUS_PLACES], PlusTable table, const uint8_t *file, size_t file_length);
 
@@ -448,6 +495,11 @@ static inline const char *plus_answer_text(uint8_t number) {
         "the register is not this editor's",
         "the list has no STOP, and there is no room for one",
         "the report has no room for all changes",
+        "bounds or length are wrong, or an area is there already or not yet",
+        "every handle has a list",
+        "no gap in the area is long enough",
+        "no list has that handle",
+        "a channel has the list in use",
     };
     return number < sizeof texts / sizeof texts[0] ? texts[number] : "a number that this version doesn't answer";
 }

@@ -1,8 +1,8 @@
 /* Sees that the library is its header's, reads a sound list from text and prints it, forecasts it, then plays it on channel 0 up to its
  * STOP and counts the same numbers: the least cycles with the processor off the 8255, the most with PSG register writes on every line.
  * On the way a slider moves the prescale, and the gesture is undone. The calls before the lines are written as a take, which is opened
- * and played again. A picture editor works beside the song editor, under a table that says what is whose. In the end an old
- * list is mended. */
+ * and played again. A picture editor works beside the song editor, under a table that says what is whose. An old list is mended. In
+ * the end lists are placed in an area of RAM, and removed from it, while one of them plays. */
 #include <stdio.h>
 #include <stdlib.h>
 #include <string.h>
@@ -15,6 +15,7 @@ static const char song[] = "LOAD 7 38\nPAUSE 2\nSTOP\n";
 
 static uint8_t ram[PLUS_RAM], store[PLUS_STORE], line[PLUS_LINE];
 static uint32_t places[2][PLUS_PLACES]; /* the page writes that can be undone, each editor's at its number */
+static uint32_t lists[PLUS_LISTS];      /* where lists are placed, each at its handle's number */
 static uint64_t records[32];            /* the calls noted, all of them on line 0 */
 static size_t noted;
 
@@ -163,6 +164,38 @@ static void put_mended(void) {
     printf("mended: %zu words\n", mended.used);
 }
 
+/* A list placed, or why it is not. */
+static PlusChip place(PlusChip chip, const uint8_t *bytes, size_t length) {
+    PlusPlaced placed = plus_place(chip, lists, ram, sizeof ram, bytes, length);
+    if (placed.answer == PLUS_DONE)
+        printf("placed: %zu bytes at %04Xh, handle %u\n", length, placed.address, placed.handle);
+    else
+        printf("placed: %zu bytes: %s\n", length, plus_answer_text(placed.answer));
+    return placed.chip;
+}
+
+static PlusChip take_out(PlusChip chip, uint32_t handle) {
+    PlusAnswered removed = plus_remove(chip, lists, handle);
+    printf("removed: handle %u: %s\n", handle, plus_answer_text(removed.answer));
+    return removed.chip;
+}
+
+/* Lists in an area of ten words, in which channel 0 plays the first one: LOAD 7 38h, PAUSE 2, STOP. */
+static void put_placed(PlusChip chip) {
+    static const uint8_t words[] = {0x38, 0x07, 0x02, 0x10, 0x20, 0x40, 0x00, 0x40};
+    PlusAnswered given = plus_area(chip, 0x8000, 0x8014);
+    served("area", given.answer);
+    chip = place(given.chip, words, 6);
+    chip = place(chip, words + 4, 4);
+    chip = place(chip, words, 6);
+    chip = take_out(chip, 0);
+    chip = take_out(chip, 1);
+    chip = place(chip, words, 8);
+    chip = place(chip, words + 4, 2);
+    printf("area: %04Xh to %04Xh, handles %llX\n", 2u * chip.editing.lists.from, 2u * chip.editing.lists.upto,
+           (unsigned long long)chip.editing.lists.used);
+}
+
 int main(void) {
     fitting();
     put_list(song, 0x8000);
@@ -175,5 +208,6 @@ int main(void) {
     put_take("a song");
     put_editors(ready());
     put_mended();
+    put_placed(ready());
     return 0;
 }

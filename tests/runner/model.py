@@ -33,6 +33,8 @@ class Chip:
         self.raster = self.last_raster = False
         self.records = [[], []]
         self.table = None
+        self.area = None
+        self.lists = {}
 
     # lock and ports
     def bc(self, byte):
@@ -224,6 +226,46 @@ class Chip:
                 return 0, top + low
         return 5, 0
 
+    # 02, L12: room for lists. A list is known by its handle, and goes from its first address up to but not at its last
+    def give(self, low, high):
+        if self.area or low % 2 or high % 2 or not low < high <= 65536:
+            return 18
+        self.area = low, high
+        return 0
+
+    def place(self, ram, listed):
+        size = len(listed)
+        if len(ram) != 65536:
+            return 1, 0, 0
+        if not self.area or size == 0 or size % 2 or size > self.area[1] - self.area[0]:
+            return 18, 0, 0
+        free = [n for n in range(64) if n not in self.lists]
+        if not free:
+            return 19, 0, 0
+        low, high = self.area
+        for a in range(low, high - size + 1, 2):
+            if all(a + size <= start or end <= a for start, end in self.lists.values()):
+                self.lists[free[0]] = a, a + size
+                ram[a:a + size] = listed
+                return 0, a, free[0]
+        return 20, 0, 0
+
+    def remove(self, handle):
+        if not self.area:
+            return 18
+        if handle not in self.lists:
+            return 21
+        if any(self.in_use(c, *self.lists[handle]) for c in self.channels):
+            return 22
+        del self.lists[handle]
+        return 0
+
+    def in_use(self, c, start, end):
+        words = [c.address]
+        if c.loops > 0:
+            words += [c.mark] + list(range(c.mark, c.address + 1, 2))
+        return c.enabled and any(start <= a < end for a in words)
+
     # one line; two bits of the byte for each channel, from channel 0 up, are what the processor does at the 8255
     def sound(self, ram, processor):
         words = []
@@ -406,6 +448,14 @@ def play(ram, store, records):
         elif op == ord('S'):
             palette, sprites = int.from_bytes(waiting[:4], 'little'), int.from_bytes(waiting[4:6], 'little')
             out.append('%d' % chip.start(palette, sprites, waiting[6]))
+        elif op == ord('N'):
+            low, high = int.from_bytes(waiting[7:11], 'little'), int.from_bytes(waiting[11:15], 'little')
+            out.append('%d' % chip.give(low, high))
+        elif op == ord('K'):
+            listed = bytes(ram[(a + i) % 65536] for i in range(value + 256 * waiting[15]))
+            out.append('%d %d %d' % chip.place(ram, listed))
+        elif op == ord('X'):
+            out.append('%d' % chip.remove(value))
         elif op == ord('Z'):
             chip, waiting = Chip(), bytearray(16)
             out.append('0')

@@ -55,7 +55,7 @@ EDITORS = MAPPED + [
     (rec('u'), '0'), (rec('U', 0x6400, 1), '0'), (rec('R', 0x6400), '0 0'), (rec('u', 0x6400, 1), '0'), (rec('r', 0x6400), '0 17'),
     (rec('E'), exported({0x6400: 0x11, 0x6805: 1})), (rec('U'), '10'), (rec('u'), '10'),
     # palette entries 1, 8, 16, 31, sprites 2 and 15, channel 1 for the picture editor; there are 16 places, of which the last 9 say
-    # nothing, and so do bits 3 to 7 of the channels
+    # nothing to a start, and so do bits 3 to 7 of the channels
     (rec('T', 0, 0x02), '0'), (rec('T', 1, 0x01), '0'), (rec('T', 2, 0x01), '0'), (rec('T', 3, 0x80), '0'), (rec('T', 4, 0x04), '0'),
     (rec('T', 5, 0x80), '0'), (rec('T', 6, 0xFA), '0'), (rec('T', 7, 0xFF), '0'), (rec('T', 15, 0xFF), '0'), (rec('T', 16, 0xFF), '0'),
     (rec('T', 0x0100, 0xFF), '0'), (rec('T', 0xFFFF, 0xFF), '0'),
@@ -102,6 +102,75 @@ EDITORS = MAPPED + [
     (rec('w', 0x6010, 4), '15'), (rec('w', 0x4F00, 5), '15'), (rec('W', 0x6C05, 6), '0'), (rec('w', 0x6C05, 6), '15'),
     (rec('w', 0x6803, 7), '0'), (rec('W', 0x6803, 8), '15'), (rec('w', 0x6C0F, 7), '0'), (rec('R', 0x6C0F), '0 0'), (rec('u'), '0'),
     (rec('u'), '10'), (rec('U'), '0'), (rec('E'), exported({0x6400: 1, 0x6402: 3, 0x6805: 3})),
+]
+
+
+def given(low, high, answer):
+    """Bounds that wait at places 7 to 14, and the area given by them; the address and the value say nothing."""
+    waits = low.to_bytes(4, 'little') + high.to_bytes(4, 'little')
+    return [(rec('T', 7 + i, byte), '0') for i, byte in enumerate(waits)] + [(rec('N', 0x1234, 0x56), '%d' % answer)]
+
+
+# after a reset: room for lists
+PLACED = MAPPED + [
+    # no area yet, and bounds that are none
+    (rec('N'), '18'), (rec('K', 0x8000, 6), '18 0 0'), (rec('X', 0, 0), '18'), (rec('X', 0, 64), '18'),
+] + given(0xC001, 0xC020, 18) + given(0xC000, 0xC01F, 18) + given(0xC000, 0xC000, 18) + given(0xC020, 0xC000, 18) \
+  + given(0xFFF0, 0x10002, 18) + given(0xC000, 0x100C020, 18) + given(0x1000C000, 0xC020, 18) + given(0xC000, 0xC020, 0) + [
+    # another area, and lengths that are none or above the area
+    (rec('N'), '18'), (rec('T', 7, 2), '0'), (rec('N'), '18'),
+    (rec('K', 0x8000, 0), '18 0 0'), (rec('K', 0x8000, 7), '18 0 0'), (rec('K', 0x8000, 34), '18 0 0'),
+    (rec('T', 15, 1), '0'), (rec('K', 0x8000, 6), '18 0 0'), (rec('T', 15, 0), '0'),
+    # lists that touch, and their words
+    (rec('K', 0x8000, 6), '0 49152 0'), (rec('K', 0x9000, 4), '0 49158 1'), (rec('K', 0xB000, 8), '0 49162 2'),
+    (rec('F', 0xC000), '0 4 13 6 15'), (rec('F', 0xC006), '0 2 4 4 4'), (rec('F', 0xC00A), '0 10 48 8 56'),
+    # up to but not at the higher bound
+    (rec('K', 0x8000, 16), '20 0 0'), (rec('K', 0xA000, 14), '0 49170 3'), (rec('K', 0x8000, 2), '20 0 0'),
+    # a list gone; its words stay in RAM until the next list comes there
+    (rec('X', 0, 4), '21'), (rec('X', 0, 63), '21'), (rec('X', 0, 64), '21'), (rec('X', 1, 255), '21'), (rec('X', 0xFFFF, 1), '0'),
+    (rec('X', 0, 1), '21'), (rec('F', 0xC006), '0 2 4 4 4'), (rec('K', 0x8000, 6), '20 0 0'),
+    # lower addresses and lower handles first
+    (rec('X', 0, 2), '0'), (rec('X', 0, 0), '0'), (rec('K', 0xB000, 8), '0 49152 0'), (rec('K', 0x9000, 4), '0 49160 1'),
+    (rec('K', 0x8000, 6), '0 49164 2'), (rec('K', 0x8000, 2), '20 0 0'),
+    # channel 0 plays the second of them: that one stays, and the others can go; once it is off, that one too
+    (rec('W', 0x6C00, 0x08), '0'), (rec('W', 0x6C01, 0xC0), '0'), (rec('W', 0x6C0F, 1), '0'),
+    (rec('X', 0, 1), '22'), (rec('X', 0, 2), '0'), (rec('K', 0x8000, 6), '0 49164 2'), (rec('X', 0, 0), '0'), (rec('K', 0xB000, 8), '0 49152 0'),
+    (rec('L'), '0 3 repeat 5 - -'), (rec('X', 0, 1), '22'), (rec('X', 0, 65), '21'),
+    (rec('L'), '0 3 control 49 - -'), (rec('X', 0, 1), '0'), (rec('K', 0x9000, 4), '0 49160 1'),
+    # all of RAM, and a loop over three lists on channel 1: the words since the mark stay, with the lists before and at the address
+    (rec('Z'), '0'),
+] + MAPPED + given(0, 65536, 0) + [
+    (rec('K', 0xB000, 4), '0 0 0'), (rec('K', 0xA004, 2), '0 4 1'), (rec('K', 0xB004, 4), '0 6 2'), (rec('F', 0), '0 14 84 10 100'),
+    (rec('W', 0x6C0F, 2), '0'), (rec('X', 0, 0), '22'), (rec('X', 0, 1), '0'), (rec('K', 0xA004, 2), '0 4 1'),
+    (rec('L'), '0 3 - repeat 3 -'), (rec('L'), '0 10 - load 2063 -'), (rec('X', 0, 0), '22'), (rec('X', 0, 1), '22'), (rec('X', 0, 2), '0'),
+    (rec('K', 0xB004, 4), '0 6 2'), (rec('L'), '0 10 - load 0 -'), (rec('X', 0, 0), '22'), (rec('X', 0, 1), '22'), (rec('X', 0, 2), '22'),
+    # back at the mark: the lists behind it are free to go
+    (rec('L'), '0 3 - control 1 -'), (rec('X', 0, 0), '22'), (rec('X', 0, 2), '0'), (rec('X', 0, 1), '0'),
+    (rec('K', 0xA004, 2), '0 4 1'), (rec('K', 0xB004, 4), '0 6 2'), (rec('K', 0x9000, 4), '0 10 3'),
+    # a mark above the address: these two lists, and none between them
+    (rec('W', 0x6C08, 0x0A), '0'), (rec('W', 0x6C0F, 4), '0'), (rec('L'), '0 3 - - repeat 5'), (rec('W', 0x6C08, 0x04), '0'),
+    (rec('X', 0, 3), '22'), (rec('X', 0, 1), '22'), (rec('X', 0, 2), '0'), (rec('X', 0, 0), '0'),
+    # 64 lists fill an area of 128 bytes: no handle comes before no gap
+    (rec('Z'), '0'),
+] + given(0xE000, 0xE080, 0) + [(rec('K', 0xB000 + 2 * n, 2), '0 %d %d' % (0xE000 + 2 * n, n)) for n in range(64)] + [
+    (rec('K', 0xB000, 2), '19 0 0'), (rec('K', 0xB000, 3), '18 0 0'), (rec('K', 0xB000, 130), '18 0 0'),
+    (rec('X', 0, 17), '0'), (rec('K', 0xB000, 4), '20 0 0'), (rec('K', 0xB000, 2), '0 57378 17'),
+    (rec('X', 0, 63), '0'), (rec('X', 0, 5), '0'), (rec('K', 0xB000, 2), '0 57354 5'), (rec('K', 0xB000, 2), '0 57470 63'),
+    # a list that goes round the end of RAM, and one whose words stand where it goes: it is copied out first
+    (rec('Z'), '0'),
+] + given(0xFFF0, 65536, 0) + [
+    (rec('M', 0xFFFC, 0x38), '0'), (rec('M', 0xFFFD, 0x07), '0'), (rec('M', 0xFFFE, 0x02), '0'), (rec('M', 0xFFFF, 0x10), '0'),
+    (rec('M', 2, 0x20), '0'), (rec('M', 3, 0x40), '0'),
+    (rec('K', 0xFFFC, 8), '0 65520 0'), (rec('F', 0xFFF0), '0 5 15 8 17'),
+    (rec('K', 0xFFF4, 8), '0 65528 1'), (rec('F', 0xFFF8), '0 2 4 4 4'), (rec('F', 0xFFFC), '6 0 0 0 0'),
+    # a reset leaves RAM, and forgets area, lists and what waits
+    (rec('T', 15, 0xFF), '0'), (rec('Z'), '0'), (rec('F', 0xFFF0), '0 5 15 8 17'), (rec('X', 0, 0), '18'), (rec('K', 0xFFF0, 8), '18 0 0'),
+    (rec('N'), '18'),
+    # the longest lists
+] + given(0, 65536, 0) + [
+    (rec('T', 15, 0xFF), '0'), (rec('K', 0x1234, 0xFF), '18 0 0'), (rec('K', 0, 0xFE), '0 0 0'), (rec('K', 0, 0xFE), '20 0 0'),
+    (rec('T', 15, 0), '0'), (rec('K', 0xFFF2, 2), '0 65534 1'), (rec('X', 0, 0), '0'), (rec('K', 0x9000, 0xFE), '0 0 0'),
+    (rec('K', 0xFFFE, 2), '0 254 2'), (rec('Z'), '0'),
 ]
 # the record and the line that answers it
 STORED = [
@@ -175,7 +244,7 @@ STORED = [
     # no call, and reset
     (rec('x', 0x1234, 5), 'bad'), (rec('b', 0, 9), 'bad'), (rec('\0'), 'bad'), (rec('e'), 'bad'), (rec('s'), 'bad'), (rec('t'), 'bad'),
     (rec('Z'), '0'), (rec('R', 0x4000, 0x12), '2 0'), (rec('L'), '0 1 - - -'), (rec('U'), '10'), (rec('u'), '10'),
-] + EDITORS + [
+] + EDITORS + [(rec('Z'), '0')] + PLACED + [
     (b'L\0\0', 'short'),
 ]
 
@@ -244,6 +313,46 @@ def editors(seed, count):
     return ram, out[:4 * count]
 
 
+def lists(seed, count):
+    """The same with areas, lists that are placed and removed, and channels that are sent into the area. Areas are of few bytes or of many,
+    now and then of as many as 64 short lists fill; there are bounds and lengths that are none, and handles above 63."""
+    r = random.Random(seed)
+    ram, records = mixed(seed, count)
+    out = rec('K') + rec('X') + rec('N')
+    low, high = 0, 0
+    for i in range(0, len(records), 4):
+        out += records[i:i + 4]
+        if r.randrange(60) == 0:
+            if r.randrange(2) == 0:
+                out += rec('Z') + b''.join(rec('B', 0, byte) for byte in UNLOCK) + rec('G', 0, 0xB8)
+            size = r.choice([16, 32, 48, 64, 100, 128, 128, 200, 1024, 8192])
+            low = r.choice([2 * r.randrange((65536 - size) // 2), 65536 - size])
+            high = low + size
+            if r.randrange(10) == 0:
+                low, high = 0, 65536
+            wrong = r.choice([(low + 1, high), (low, high - 1), (high, low), (low, low), (low, high + 65536), (low + 65536, high)])
+            for bounds in [wrong, (low, high)]:
+                out += b''.join(rec('T', 7 + n, byte) for n, byte in enumerate(b''.join(b.to_bytes(4, 'little') for b in bounds)))
+                out += rec('N', r.randrange(65536), r.randrange(256))
+        if r.randrange(3) == 0:
+            size = r.choice([2, 2, 4, 6, 2 * r.randrange(1, 20), 2 * r.randrange(1, 128), r.randrange(256)])
+            if r.randrange(30) == 0:
+                out += rec('T', 15, r.choice([1, r.randrange(40), r.randrange(256)]))
+                out += rec('K', r.randrange(65536), size) * 3 + rec('T', 15, 0)
+            out += rec('K', r.randrange(65536), size)
+        if r.randrange(3) == 0:
+            out += rec('X', r.randrange(65536), r.choice([r.randrange(4), r.randrange(16), r.randrange(70), r.randrange(256)]))
+        if r.randrange(12) == 0:
+            n, a = r.randrange(3), low + 2 * r.randrange(min(high - low, 100) // 2 + 1) & 0xFFFF
+            out += rec('W', 0x6C00 + 4 * n, a & 255) + rec('W', 0x6C01 + 4 * n, a >> 8) + rec('W', 0x6C0F, r.choice([1, 2, 4, 7]))
+            for _ in range(r.randrange(8)):
+                out += rec('L') + rec('X', 0, r.randrange(12))
+        if r.randrange(200) == 0:
+            out += b''.join(rec('K', r.randrange(65536), 2) for _ in range(66)) + rec('X', 0, 64) + rec('X', 0, 63)
+            out += b''.join(rec('X', 0, r.randrange(64)) + rec('K', 0, 2) for _ in range(10))
+    return ram, out[:4 * count]
+
+
 def pair(name, ram, records):
     with open(os.path.join(HERE, name + '.in'), 'wb') as f:
         f.write(ram + STORE + records)
@@ -256,3 +365,4 @@ pair('bad', ram_of(LISTS), rec('a') + rec('M', 0x8000, 0x77) + rec('?', 0x8000, 
 # a block of input has 16,384 records
 pair('mixed', *mixed(1, 20000))
 pair('editors', *editors(7, 8000))
+pair('lists', *lists(12, 12000))

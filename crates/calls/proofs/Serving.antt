@@ -36,50 +36,50 @@ waitingBeside bytes w = record { world = w; waiting = bytes }
 module _ {r : Machine} {before after : List ℕ} {at : ℕ} where
   -- a line that is put, and the chip beside the buffers
   pub tells :
-      {c : Chip} {bytes text : List ℕ} {s : Running} {a : Act} (ram store song picture : List ℕ) →
-      Tells c bytes text before at after r → waitingBeside bytes (worldOf c ram store song picture) ≡ stateBy s a → text ≡ lineBy s a →
-      Does s a (runningOf r ram store song picture) before at after (r .at)
-  tells ram store song picture t e f = record { state = rw (t .chip, t .waiting) e; puts = rw f at (t .puts); bound = t .bound }
+      {c : Chip} {bytes text : List ℕ} {s : Running} {a : Act} (ram store song picture slots : List ℕ) →
+      Tells c bytes text before at after r → waitingBeside bytes (worldOf c ram store song picture slots) ≡ stateBy s a → text ≡ lineBy s a →
+      Does s a (runningOf r ram store song picture slots) before at after (r .at)
+  tells ram store song picture slots t e f = record { state = rw (t .chip, t .waiting) e; puts = rw f at (t .puts); bound = t .bound }
 
   module _ {c : Chip} {bytes : List ℕ} {told : Answered} (t : Tells (told .chip) bytes (oneLine (told .answer)) before at after r) where
     -- a call that changes the chip alone and answers one number
     pub answers :
-        {next : Chip} {number : ℕ} {a : Act} → Answers number next c told → (ram store song picture : List ℕ) →
-        (let s = waitingBeside bytes (worldOf c ram store song picture) in
+        {next : Chip} {number : ℕ} {a : Act} → Answers number next c told → (ram store song picture slots : List ℕ) →
+        (let s = waitingBeside bytes (worldOf c ram store song picture slots) in
         waitingBeside bytes (served number (withChip (s .world) next) (s .world)) ≡ stateBy s a →
-        oneLine number ≡ lineBy s a → Does s a (runningOf r ram store song picture) before at after (r .at))
-    answers k ram store song picture e f =
-        tells ram store song picture t
-        (ap (waitingBeside bytes) (answered (worldOf c ram store song picture) k) ∙ e) (rw (k .answer) f)
+        oneLine number ≡ lineBy s a → Does s a (runningOf r ram store song picture slots) before at after (r .at))
+    answers k ram store song picture slots e f =
+        tells ram store song picture slots t
+        (ap (waitingBeside bytes) (answered (worldOf c ram store song picture slots) k) ∙ e) (rw (k .answer) f)
 
     -- a page write, and an undo
     pub writes :
         (ed : Editor) {store places store' places' : List ℕ} {address byte : ℕ} →
-        Writes c ed store places address byte store' places' told → (ram others : List ℕ) →
-        Does (waitingBeside bytes (worldOf c ram store (pick ed places others) (pick ed others places))) (calls (write ed address byte))
-        (runningOf r ram store' (pick ed places' others) (pick ed others places')) before at after (r .at)
-    writes Song {store = store} {places = places} {store' = store'} {places' = places'} k ram others =
-        tells ram store' places' others t
-        (ap (waitingBeside bytes) (writing (worldOf c ram store places others) Song k)) (rw (k .call .answer))
-    writes Picture {store = store} {places = places} {store' = store'} {places' = places'} k ram others =
-        tells ram store' others places' t
-        (ap (waitingBeside bytes) (writing (worldOf c ram store others places) Picture k)) (rw (k .call .answer))
+        Writes c ed store places address byte store' places' told → (ram others slots : List ℕ) →
+        Does (waitingBeside bytes (worldOf c ram store (pick ed places others) (pick ed others places) slots)) (calls (write ed address byte))
+        (runningOf r ram store' (pick ed places' others) (pick ed others places') slots) before at after (r .at)
+    writes Song {store = store} {places = places} {store' = store'} {places' = places'} k ram others slots =
+        tells ram store' places' others slots t
+        (ap (waitingBeside bytes) (writing (worldOf c ram store places others slots) Song k)) (rw (k .call .answer))
+    writes Picture {store = store} {places = places} {store' = store'} {places' = places'} k ram others slots =
+        tells ram store' others places' slots t
+        (ap (waitingBeside bytes) (writing (worldOf c ram store others places slots) Picture k)) (rw (k .call .answer))
 
     pub undoes :
-        (ed : Editor) {store places store' : List ℕ} → Undoes c ed store places store' told → (ram others : List ℕ) →
-        Does (waitingBeside bytes (worldOf c ram store (pick ed places others) (pick ed others places))) (calls (undo ed))
-        (runningOf r ram store' (pick ed places others) (pick ed others places)) before at after (r .at)
-    undoes Song {store = store} {places = places} {store' = store'} k ram others =
-        tells ram store' places others t
-        (ap (waitingBeside bytes) (undoing (worldOf c ram store places others) Song k)) (rw (k .call .answer))
-    undoes Picture {store = store} {places = places} {store' = store'} k ram others =
-        tells ram store' others places t
-        (ap (waitingBeside bytes) (undoing (worldOf c ram store others places) Picture k)) (rw (k .call .answer))
+        (ed : Editor) {store places store' : List ℕ} → Undoes c ed store places store' told → (ram others slots : List ℕ) →
+        Does (waitingBeside bytes (worldOf c ram store (pick ed places others) (pick ed others places) slots)) (calls (undo ed))
+        (runningOf r ram store' (pick ed places others) (pick ed others places) slots) before at after (r .at)
+    undoes Song {store = store} {places = places} {store' = store'} k ram others slots =
+        tells ram store' places others slots t
+        (ap (waitingBeside bytes) (undoing (worldOf c ram store places others slots) Song k)) (rw (k .call .answer))
+    undoes Picture {store = store} {places = places} {store' = store'} k ram others slots =
+        tells ram store' others places slots t
+        (ap (waitingBeside bytes) (undoing (worldOf c ram store others places slots) Picture k)) (rw (k .call .answer))
 
 -- the line's call, into 640 bytes
-module _ {c : Chip} {ram store line line' : List ℕ} {a : Accesses} {told : Stepped} (k : Shows c ram store a line line' told) (size : length line ≡ lineBytes) (song picture : List ℕ) where
+module _ {c : Chip} {ram store line line' : List ℕ} {a : Accesses} {told : Stepped} (k : Shows c ram store a line line' told) (size : length line ≡ lineBytes) (song picture slots : List ℕ) where
   abbrev w : World
-  w = worldOf c ram store song picture
+  w = worldOf c ram store song picture slots
 
   answer : told .answer ≡ answerTo w (shown a)
   answer = rw size at (k .steps .answer)

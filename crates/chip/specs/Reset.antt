@@ -4,6 +4,7 @@ use mathlib.Core.Bool.{false}
 use mathlib.Core.List.{[]}
 use lib.ListN.{replicate}
 use Rattle.editors.specs.Table.{noTable}
+use Rattle.lists.specs.Area.{noLists}
 use Rattle.lock.specs.Machine.{resetLock, Tracks}
 use Rattle.sound.specs.Line.{offChannel}
 use Rattle.sound.specs.declared.Sound.{Sound}
@@ -29,7 +30,7 @@ resetVideo = record { pri = 0; «split_line» = 0; «split_high» = 0; «split_l
 abbrev pub resetSound : Sound
 resetSound = record { channels = replicate 3 offChannel; psg = replicate 16 0 }
 
--- locked, page not mapped, all sprites off, the palette 0, no interrupt waiting, IVR 01h; no table, and nothing to undo
+-- locked, page not mapped, all sprites off, the palette 0, no interrupt waiting, IVR 01h; no table, nothing to undo, and no area for lists
 unfoldable pub resetChip : Chip
 resetChip =
     record {
@@ -41,7 +42,7 @@ resetChip =
       palette = replicate 64 0;
       sound = resetSound;
       interrupts = record { raster = false; «last_raster» = false; ivr = 1 };
-      editing = record { table = noTable; song = noEntries; picture = noEntries };
+      editing = record { table = noTable; song = noEntries; picture = noEntries; lists = noLists };
     }
 
 -- what reset promises: the chip, and a lock that has been fed no byte

@@ -3,6 +3,7 @@ use crtc::Counters;
 use crtc::Registers;
 use crtc::Video;
 use editors::Table;
+use lists::Area;
 use lock::Lock;
 use picture::sprite::Sprite;
 use ring::Undo;
@@ -39,16 +40,16 @@ pub struct Interrupts {
 }
 
 // What is kept for the editors: the table of who may write what, and for each the record of its page writes that can be taken back,
-// whose places are lent.
+// whose places are lent; and the area of RAM for placed lists with its handles, whose places are lent too.
 #[repr(C)]
 pub struct Editing {
     pub table: Table,
     pub song: Undo,
     pub picture: Undo,
+    pub lists: Area,
 }
 
-// The whole state. The palette has two bytes an entry, low then high. The parts stand so that they leave few bytes between them:
-// of 256 bytes a copy is short.
+// The whole state. The palette has two bytes an entry, low then high. The parts stand so that they leave few bytes between them.
 #[repr(C)]
 pub struct Chip {
     pub lock: Lock,

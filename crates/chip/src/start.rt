@@ -7,6 +7,7 @@ use crate::Interrupts;
 use crtc::Counters;
 use crtc::Registers;
 use crtc::Video;
+use lists::Area;
 use lock::Lock;
 use picture::sprite::Sprite;
 use ring::Undo;
@@ -100,6 +101,11 @@ pub fn reset() -> Chip
             table,
             song: Undo { next: 0, count: 0 },
             picture: Undo { next: 0, count: 0 },
+            lists: Area {
+                used: 0,
+                from: 0,
+                upto: 0,
+            },
         },
     }
 }

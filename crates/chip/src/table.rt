@@ -38,15 +38,17 @@ pub fn with_undo(editing: Editing, editor: Editor, undo: Undo) -> Editing
     }
 }
 
-// The host gives the table, which empties both records.
+// The host gives the table, which empties both records. Placed lists stay.
 pub fn start(mut chip: Chip, owners: Owners) -> Answered
     ensures { λ r. ⌜ Answers done (started chip owners) chip r ⌝ }
 {
+    let lists = chip.editing.lists;
     let table = editors::holding(owners);
     let editing = Editing {
         table,
         song: Undo { next: 0, count: 0 },
         picture: Undo { next: 0, count: 0 },
+        lists,
     };
     chip.editing = editing;
     Answered { answer: DONE, chip }

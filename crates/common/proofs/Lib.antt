@@ -4,3 +4,4 @@ pub mod Storing
 pub mod Order
 pub mod Tests
 pub mod Begins
+pub mod Words

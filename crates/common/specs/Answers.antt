@@ -75,6 +75,26 @@ noRoomForStop = 16
 abbrev pub reportTooSmall : ℕ
 reportTooSmall = 17
 
+-- bounds that are no area's, an area that stands already or not yet, or a list's length that none can have there
+abbrev pub wrongArea : ℕ
+wrongArea = 18
+
+-- all 64 handles have a list
+abbrev pub allPlaced : ℕ
+allPlaced = 19
+
+-- no gap of the area is long enough
+abbrev pub noGap : ℕ
+noGap = 20
+
+-- no list has that handle
+abbrev pub noHandle : ℕ
+noHandle = 21
+
+-- a channel has the list in use
+abbrev pub listInUse : ℕ
+listInUse = 22
+
 -- what a served call gives, or what stands in its place where the number is a refusal
 abbrev pub served : {A : Type 0} → ℕ → A → A → A
 served number x other = if (eqb number done) x other

@@ -49,5 +49,20 @@ pub const NOT_YOURS: u8 = 15;
 // a list has no STOP, and the buffer no room for one;
 pub const NO_ROOM_FOR_STOP: u8 = 16;
 
-// the report is too small for the changes.
+// the report is too small for the changes;
 pub const REPORT_TOO_SMALL: u8 = 17;
+
+// bounds that are no area's, an area that stands already or not yet, or a list's length that none can have there;
+pub const WRONG_AREA: u8 = 18;
+
+// all 64 handles have a list;
+pub const ALL_PLACED: u8 = 19;
+
+// no gap of the area is long enough;
+pub const NO_GAP: u8 = 20;
+
+// no list has that handle;
+pub const NO_HANDLE: u8 = 21;
+
+// a channel has the list in use.
+pub const LIST_IN_USE: u8 = 22;

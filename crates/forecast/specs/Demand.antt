@@ -23,7 +23,7 @@ use Rattle.chip.specs.declared.Chip.{Chip}
 use Rattle.chip.specs.Channels.{LeftAlone}
 use Rattle.chip.specs.Step.{idleReport}
 use Rattle.runs.specs.World.{World, placesOf}
-use Rattle.runs.specs.Call.{Told, nothing, byte, vector, report}
+use Rattle.runs.specs.Call.{Told, nothing, byte, vector, report, placed}
 use Rattle.runs.specs.Sort.{Sort, feeds, writes, undoes, stepsLine, starts, lends, plain, onLine}
 use Rattle.runs.specs.Run.{Made, Run, Each}
 use Rattle.registers.specs.Owners.{ownsChannel}
@@ -32,8 +32,9 @@ use Rattle.page.specs.Undo.{newest}
 use Rattle.forecast.specs.Rule.{even, wordsOf}
 
 -- ---- the calls of a run are those of `Call` in the crate `runs`: the line's call, which is the line step where it is served and passes no
--- line where it is refused (02, L11); port writes, page reads and writes, undo, acknowledges; starts. The page calls are those of both
--- editors, and the host may lend other buffers before each of them. The core's own step is a line too
+-- line where it is refused (02, L11); port writes, page reads and writes, undo, acknowledges; starts; and the calls on placed lists (02,
+-- L12). The page calls are those of both editors, and the host may lend other buffers before each of them. The core's own step is a line
+-- too
 
 -- channel n of the chip
 abbrev pub channel : Chip → ℕ → Channel
@@ -85,6 +86,7 @@ reportIn nothing = idleReport
 reportIn (byte b) = idleReport
 reportIn (vector v) = idleReport
 reportIn (report r) = r
+reportIn (placed a h) = idleReport
 
 -- the served line steps of a run, in order
 abbrev pub stepBy : Made → List LineStep → List LineStep

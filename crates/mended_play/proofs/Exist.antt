@@ -158,8 +158,8 @@ two-runs words start evens fits n h accesses others =
     let chip = ready-chip start 0 in
     let ram = ram-with start words (omega (arith, fits, mended-length words)) in
     let other = ram-with start (mendedWords words) fits in
-    let w = worldOf (chip .0) (ram .ram) (zeros 4096) (zeros 256) (zeros 256) in
-    let x = worldOf (chip .0) (other .ram) (zeros 4096) (zeros 256) (zeros 256) in
+    let w = worldOf (chip .0) (ram .ram) (zeros 4096) (zeros 256) (zeros 256) (zeros 64) in
+    let x = worldOf (chip .0) (other .ram) (zeros 4096) (zeros 256) (zeros 256) (zeros 64) in
     let ready = chip .1 n h in
     record {
       old = w;

@@ -13,23 +13,22 @@ use Rattle.chip.specs.Reset.{resetChip}
 use Rattle.chip.specs.Editors.{started}
 use Rattle.chip.proofs.start.reset.Reads as reset
 use Rattle.runs.specs.World.{World, Loan}
-use Rattle.runs.specs.Call.{Call, write, start, Typed, worldAfter}
+use Rattle.runs.specs.Call.{Call, read, write, undo, start, remove, Typed, worldAfter}
 use Rattle.runs.specs.Run.{Run, ended, on, Each, madeOver, worldOver}
-use Rattle.runs.specs.Pair.{Beside}
+use Rattle.runs.specs.Pair.{Beside, SameReplies}
 use Rattle.runs.specs.Pair as pair
 use Rattle.runs.proofs.Calls.{AllPlaces, possible}
+use Rattle.runs.proofs.Opens.{differ}
 use Rattle.runs.proofs.Runs.{Every, every, every-joined, each-made, WholeLoan, Whole, AllWhole, lends-whole, run-possible}
-use Rattle.noninterference.specs.TwoRuns.{PageCall, reads, writes, undoes, RamAlone, ram, HandsOn, Fair, Session}
-
-pub differ : {A : Type 0} → _≡_ {A = ℕ} 0 1 → A
-differ z = absurd (omega arith)
+use Rattle.noninterference.specs.TwoRuns.{PageCall, reads, writes, undoes, Removal, removes, HostLoan, ram, slots, HandsOn, Fair, Session}
 
 -- where no places are lent, 256 of them stay
-ram-whole : (l : Loan) → RamAlone l → WholeLoan l
-ram-whole l (ram x) = tt
+host-whole : (l : Loan) → HostLoan l → WholeLoan l
+host-whole l (ram x) = tt
+host-whole l (slots x) = tt
 
 pub all-whole : (w : World) (cs : List Call) → Every HandsOn cs → AllWhole cs
-all-whole w cs h = every HandsOn Whole (λ c x. lends-whole w c (λ l q. ram-whole l (x .lends l q))) cs h
+all-whole w cs h = every HandsOn Whole (λ c x. lends-whole w c (λ l q. host-whole l (x .lends l q))) cs h
 
 -- ---- a session
 
@@ -96,6 +95,7 @@ pub record Pair (t : Table) (e : Editor) (w : World) (cs ds : List Call) : Type 
   pub first-fair : Each (λ m. Fair t e (m .asks)) (madeOver w cs)
   pub second-fair : Each (λ m. Fair t e (m .asks)) (madeOver w ds)
   pub beside : Beside (PageCall (other e)) (madeOver w cs) (madeOver w ds)
+  pub removals : SameReplies Removal beside
 
 beside-made : {Theirs : Call → Type 0} {cs ds : List Call} (w v : World) → Alike Theirs cs ds → Beside Theirs (madeOver w cs) (madeOver v ds)
 beside-made w v none = pair.ended
@@ -103,11 +103,24 @@ beside-made w v (left {c = c} x a) = pair.first x (beside-made (worldAfter w c) 
 beside-made w v (right {d = d} x a) = pair.second x (beside-made w (worldAfter v d) a)
 beside-made w v (same {c = c} a) = pair.both refl (beside-made (worldAfter w c) (worldAfter v c) a)
 
--- for any calls of the other editor, at any places in either run, and any others in both
+-- no list is removed on the way, so no answer to that can differ
+abbrev pub RemovesNone : Call → Type 0
+RemovesNone c = Removal c → ⊥
+
+none-removed :
+    {Theirs : Call → Type 0} {cs ds : List Call} (w v : World) (a : Alike Theirs cs ds) → Every RemovesNone cs →
+    SameReplies Removal (beside-made w v a)
+unfolding beside-made
+none-removed w v none h = tt
+none-removed w v (left {c = c} x a) h = none-removed (worldAfter w c) v a (h .1)
+none-removed w v (right {d = d} x a) h = none-removed w (worldAfter v d) a h
+none-removed w v (same {c = c} a) h = (λ r. absurd (h .0 r), none-removed (worldAfter w c) (worldAfter v c) a (h .1))
+
+-- for any calls of the other editor, at any places in either run, and any others in both that remove no list
 pub pairs-exist :
     (t : Table) (e : Editor) (w : World) (cs ds : List Call) → AllPlaces w → Alike (PageCall (other e)) cs ds → Every (Fair t e) cs →
-    Every (Fair t e) ds → Pair t e w cs ds
-pairs-exist t e w cs ds places a f g =
+    Every (Fair t e) ds → Every RemovesNone cs → Pair t e w cs ds
+pairs-exist t e w cs ds places a f g n =
     let hands = every (Fair t e) HandsOn (λ c x. x .hands) in
     record {
       first-run = run-possible cs w places (all-whole w cs (hands cs f));
@@ -115,6 +128,7 @@ pairs-exist t e w cs ds places a f g =
       first-fair = each-made (Fair t e) cs w f;
       second-fair = each-made (Fair t e) ds w g;
       beside = beside-made w w a;
+      removals = none-removed w w a n;
     }
 
 -- such are any calls of the other editor before the same calls
@@ -130,6 +144,15 @@ lefts : {Theirs : Call → Type 0} (cs ds hs : List Call) → Every Theirs cs �
 lefts [] ds hs h i = rights ds hs i
 lefts (c ∷ cs) ds hs h i = left (h .0) (lefts cs ds hs (h .1) i)
 
+-- a page call removes no list
+pub no-removal : (c : Call) → ((handle : ℕ) → c ≡ remove handle → ⊥) → RemovesNone c
+no-removal c f (removes handle) = f handle refl
+
+page-call : (e : Editor) (c : Call) → PageCall e c → RemovesNone c
+page-call e c (reads a bus) r = no-removal (read e a bus) (λ h q. differ cc) r
+page-call e c (writes a b) r = no-removal (write e a b) (λ h q. differ cc) r
+page-call e c undoes r = no-removal (undo e) (λ h q. differ cc) r
+
 -- a page call of an editor with arguments of the call's types
 pub record Theirs (e : Editor) (c : Call) : Type 0 where
   pub is : PageCall e c
@@ -137,12 +160,13 @@ pub record Theirs (e : Editor) (c : Call) : Type 0 where
 
 pub any-calls :
     (t : Table) (e : Editor) (w : World) (cs ds hs : List Call) → AllPlaces w → Every (Theirs (other e)) cs → Every (Theirs (other e)) ds →
-    Every (Fair t e) hs → Pair t e w (cs ++ hs) (ds ++ hs)
-any-calls t e w cs ds hs places h i f =
+    Every (Fair t e) hs → Every RemovesNone hs → Pair t e w (cs ++ hs) (ds ++ hs)
+any-calls t e w cs ds hs places h i f n =
     let are = every (Theirs (other e)) (PageCall (other e)) (λ c x. x .is) in
     let fair = every (Theirs (other e)) (Fair t e) (λ c x. theirs-fair t e c (x .is) (x .typed)) in
     pairs-exist t e w (cs ++ hs) (ds ++ hs) places (lefts cs ds hs (are cs h) (are ds i)) (every-joined (Fair t e) cs hs (fair cs h) f)
     (every-joined (Fair t e) ds hs (fair ds i) f)
+    (every-joined RemovesNone cs hs (every (Theirs (other e)) RemovesNone (λ c x. page-call (other e) c (x .is)) cs h) n)
 
 -- two runs in which the other editor's every write differs: 0 in the one, 1 in the other, at any addresses
 abbrev pub writesOf : Editor → ℕ → List ℕ → List Call
@@ -158,7 +182,7 @@ writes-theirs e b (a ∷ ns) s h = (record { is = writes a b; typed = (h .0, s) 
 
 pub every-write-differs :
     (t : Table) (e : Editor) (w : World) (ns : List ℕ) (hs : List Call) → AllPlaces w → Addresses ns → Every (Fair t e) hs →
-    Pair t e w (writesOf (other e) 0 ns ++ hs) (writesOf (other e) 1 ns ++ hs)
-every-write-differs t e w ns hs places h f =
+    Every RemovesNone hs → Pair t e w (writesOf (other e) 0 ns ++ hs) (writesOf (other e) 1 ns ++ hs)
+every-write-differs t e w ns hs places h f n =
     any-calls t e w (writesOf (other e) 0 ns) (writesOf (other e) 1 ns) hs places (writes-theirs (other e) 0 ns (omega arith) h)
-    (writes-theirs (other e) 1 ns (omega arith) h) f
+    (writes-theirs (other e) 1 ns (omega arith) h) f n

@@ -8,3 +8,4 @@ pub mod Sights
 pub mod Claim
 pub mod Exist
 pub mod Needed
+pub mod Removals

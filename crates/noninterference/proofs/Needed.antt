@@ -1,24 +1,20 @@
 -- Each premise is needed: without it two runs from reset break the claim.
 use mathlib.Core.Path.{_≡_, refl, ap, sym, _∙_, subst}
-use mathlib.Core.Bool.{Bool, true, false}
-use mathlib.Core.List.{List, [], _∷_, _++_, map}
+use mathlib.Core.Bool.{true, false}
+use mathlib.Core.List.{List, [], _∷_}
 use Prim.Native.Nat.{ℕ, _+_, _*_}
 use native.Mathlib.Omega.{arith}
-use borrow.Author.Tests.{ltb-true}
-use lib.Dec.{ltb}
 use lib.ListN.{length, replicate, length-replicate, length-set}
-use Rattle.common.specs.Choice.{both, bit}
-use Rattle.common.proofs.Tests.{both-true}
+use Rattle.common.specs.Choice.{bit}
 use Rattle.editors.specs.declared.Editor.{Editor}
 use Rattle.editors.specs.declared.Editor.the-variants.{Song, Picture}
 use Rattle.editors.specs.declared.Owners.{Owners}
 use Rattle.editors.specs.declared.Table.{Table}
 use Rattle.editors.specs.Table.{noTable, other, holding}
 use Rattle.ring.specs.declared.Undo.{Undo}
+use Rattle.lists.specs.Area.{noLists}
 use Rattle.ring.specs.Ring.{pushed}
-use Rattle.lock.specs.Machine.{key, fed, nextStage}
-use Rattle.lock.proofs.Steps.{fresh as fresh-lock}
-use Rattle.picture.specs.Sprites.{offSprite, written, shown, coordinate}
+use Rattle.picture.specs.Sprites.{written, shown, coordinate}
 use Rattle.crtc.specs.Line.{rasterDue, splitDue, captured, frameEnds, frameStart, nextLine, lineOf}
 use Rattle.words.specs.Words.{kindOf}
 use Rattle.sound.specs.declared.Access.the-variants.{Off}
@@ -27,11 +23,9 @@ use Rattle.sound.specs.declared.Channel.{Channel as Voice}
 use Rattle.sound.specs.declared.Sound.{Sound}
 use Rattle.sound.specs.Channels.{wordAt, pauseCounted, active, fetched, controlled, turnOf}
 use Rattle.sound.specs.Line.{offChannel, soundAfter}
-use Rattle.chip.specs.declared.Chip.{Chip}
 use Rattle.chip.specs.declared.Editing.{Editing}
 use Rattle.chip.specs.Editors.{noEntries, started}
-use Rattle.chip.specs.Reset.{resetCrtc, resetVideo, resetSound, resetChip}
-use Rattle.chip.specs.Ports.{selected, gateAnswer, gateAfter, gateWritten}
+use Rattle.chip.specs.Reset.{resetSound}
 use Rattle.chip.specs.Interrupts.{sourceOf, acknowledgeAnswer, acknowledged, soundServed}
 use Rattle.chip.specs.Step.{countersStepped, stepped}
 use Rattle.draw.specs.Drawing.{drawAnswer}
@@ -39,24 +33,26 @@ use Rattle.registers.specs.Address.{registerAt, spriteAt, videoAt, channelAt}
 use Rattle.registers.specs.Registers.{dcsr}
 use Rattle.page.specs.Page.{pageAnswer, readAnswer, writeAnswer, pageWritten, placesAfter}
 use Rattle.runs.specs.World.{World, Buffers, placesOf}
-use Rattle.runs.specs.Call.{Call, bc, gate, read, write, ack, line, start, Reply, byte, Typed, replyTo, worldAfter}
+use Rattle.runs.specs.Call.{Call, read, write, ack, line, start, remove, Reply, byte, Typed, replyTo, worldAfter}
 use Rattle.runs.specs.Run.{Made, Run, Each, madeOver, worldOver}
 use Rattle.runs.specs.Reached.{Reached}
-use Rattle.runs.specs.Pair.{Beside, ended, first, both as same}
+use Rattle.runs.specs.Pair.{Beside, ended, first, both as same, SameReplies}
 use Rattle.runs.proofs.Calls.{AllPlaces}
+use Rattle.runs.proofs.Opens.{differ, Good, opensThen, opens-good, mappedChip, fresh, mapped, opened, good-reached}
 use Rattle.runs.proofs.Runs.{Every, every, each-made, run-possible}
-use Rattle.noninterference.specs.TwoRuns.{PageCall, reads, writes, ownOrDcsr, HandsOn, Fair, Session, Unaffected}
+use Rattle.noninterference.specs.TwoRuns.{PageCall, reads, writes, ownOrDcsr, Removal, HandsOn, Fair, Session, Unaffected}
 use Rattle.noninterference.proofs.Claim.{noninterference}
-use Rattle.noninterference.proofs.Exist.{differ, all-whole, theirs-fair}
+use Rattle.noninterference.proofs.Exist.{all-whole, theirs-fair, no-removal}
 
--- the claim, by what is asked of the world where the two runs begin and of each of their calls
-pub record Claims (Begins : Table → World → Type 0) (Asks : Table → Editor → Call → Type 0) (t : Table) : Type 0 where
+-- the claim, by what is asked of the world where the two runs begin and of each of their calls, and by the calls whose replies are the
+-- same in both
+pub record Claims (Begins : Table → World → Type 0) (Asks : Table → Editor → Call → Type 0) (Given : Call → Type 0) (t : Table) : Type 0 where
   pub unaffected :
       (e : Editor) {w v u : World} {es fs : List Made} → Begins t w → Run w es v → Run w fs u → Each (λ m. Asks t e (m .asks)) es →
-      Each (λ m. Asks t e (m .asks)) fs → (b : Beside (PageCall (other e)) es fs) → Unaffected t e w b
+      Each (λ m. Asks t e (m .asks)) fs → (b : Beside (PageCall (other e)) es fs) → SameReplies Given b → Unaffected t e w b
 
-pub claimed : (t : Table) → Claims Session Fair t
-claimed t = record { unaffected = λ e s m n f g b. noninterference t .unaffected e s m n f g b }
+pub claimed : (t : Table) → Claims Session Fair Removal t
+claimed t = record { unaffected = λ e s m n f g b j. noninterference t .unaffected e s m n f g b j }
 
 -- a session, whatever IVR is
 pub record AnyIvr (t : Table) (w : World) : Type 0 where
@@ -87,12 +83,12 @@ all-fair Asks t e fair (m ∷ es) f = (fair (m .asks) (f .0), all-fair Asks t e 
 
 holds :
     (Begins : Table → World → Type 0) (Asks : Table → Editor → Call → Type 0) (t : Table) → ((w : World) → Begins t w → Session t w) →
-    ((e : Editor) (c : Call) → Asks t e c → Fair t e c) → Claims Begins Asks t
+    ((e : Editor) (c : Call) → Asks t e c → Fair t e c) → Claims Begins Asks Removal t
 holds Begins Asks t session fair =
     record {
       unaffected =
-          λ e {w} {v} {u} {es} {fs} s m n f g b.
-          claimed t .unaffected e (session w s) m n (all-fair Asks t e (fair e) es f) (all-fair Asks t e (fair e) fs g) b;
+          λ e {w} {v} {u} {es} {fs} s m n f g b j.
+          claimed t .unaffected e (session w s) m n (all-fair Asks t e (fair e) es f) (all-fair Asks t e (fair e) fs g) b j;
     }
 
 -- with the premise that was left out
@@ -108,7 +104,7 @@ pub record SameStarts (t : Table) (e : Editor) (c : Call) : Type 0 where
   pub rest : AnyStart t e c
   pub starts : (o : Owners) → c ≡ start o → holding o ≡ t
 
-with-ivr : (t : Table) → Claims ThatIvr Fair t
+with-ivr : (t : Table) → Claims ThatIvr Fair Removal t
 with-ivr t =
     holds ThatIvr Fair t
     (λ w s.
@@ -123,12 +119,12 @@ with-ivr t =
     })
     (λ e c f. f)
 
-with-reads : (t : Table) → Claims Session OwnReads t
+with-reads : (t : Table) → Claims Session OwnReads Removal t
 with-reads t =
     holds Session OwnReads t (λ w s. s)
     (λ e c f. record { typed = f .rest .typed; reads = f .reads; starts = f .rest .starts; hands = f .rest .hands })
 
-with-starts : (t : Table) → Claims Session SameStarts t
+with-starts : (t : Table) → Claims Session SameStarts Removal t
 with-starts t =
     holds Session SameStarts t (λ w s. s)
     (λ e c f. record { typed = f .rest .typed; reads = f .rest .reads; starts = f .starts; hands = f .rest .hands })
@@ -142,109 +138,64 @@ any-start f = record { typed = f .typed; reads = f .reads; hands = f .hands }
 -- ---- where the two runs begin: from reset the unlocking bytes, then a byte that maps the page, then what else is given
 
 -- buffers of the right lengths, with a word with INT at the start of RAM
-record Lent (l : Buffers) : Type 0 where
-  ram-size : length (l .ram) ≡ 65536
-  word : wordAt (l .ram) 0 ≡ 0x4010
-  store-size : length (l .store) ≡ 4096
-  places : (e : Editor) → length (placesOf l e) ≡ 256
+pub record Lent (l : Buffers) : Type 0 where
+  pub ram-size : length (l .ram) ≡ 65536
+  pub word : wordAt (l .ram) 0 ≡ 0x4010
+  pub store-size : length (l .store) ≡ 4096
+  pub places : (e : Editor) → length (placesOf l e) ≡ 256
+  pub slots-size : length (l .slots) ≡ 64
 
-abbrev opensThen : List Call → List Call
-opensThen cs = map bc (1 ∷ 0 ∷ key ++ (0 ∷ [])) ++ gate 0xb8 ∷ cs
+-- calls that lend nothing hand all buffers on, and the world that they come to is reached
+good-hands : (c : Call) → Good c → HandsOn c
+good-hands c g = record { lends = λ l q. absurd (g .lends-none l q) }
 
-abbrev fresh : Buffers → World
-fresh l = record { chip = resetChip; lent = l }
-
--- a call whose arguments have its types, and which lends nothing
-record Good (c : Call) : Type 0 where
-  typed : Typed c
-  hands : HandsOn c
-
-select-good : (b : ℕ) → ltb b 256 ≡ true → Good (bc b)
-select-good b h = record { typed = ltb-true b 256 h; hands = record { lends = λ l q. differ cc } }
-
-small : List ℕ → Bool
-small [] = true
-small (b ∷ bs) = both (ltb b 256) (small bs)
-
-selects-good : (bs : List ℕ) (cs : List Call) → small bs ≡ true → Every Good cs → Every Good (map bc bs ++ cs)
-unfolding small
-selects-good [] cs h k = k
-selects-good (b ∷ bs) cs h k =
-    let (i, j) = both-true (ltb b 256) (small bs) h in
-    (select-good b i, selects-good bs cs j k)
-
-opens-good : (cs : List Call) → Every Good cs → Every Good (opensThen cs)
-unfolding small
-opens-good cs k =
-    selects-good (1 ∷ 0 ∷ key ++ (0 ∷ [])) (gate 0xb8 ∷ cs) refl
-    (record { typed = omega arith; hands = record { lends = λ l q. differ cc } }, k)
-
--- buffers are handed on over such calls, and the world that they come to is reached
 begins-hands :
     (l : Buffers) (cs : List Call) → Every Good cs → Each (λ m. HandsOn (m .asks)) (madeOver (fresh l) (opensThen cs))
-begins-hands l cs k =
-    each-made HandsOn (opensThen cs) (fresh l) (every Good HandsOn (λ c g. g .hands) (opensThen cs) (opens-good cs k))
+begins-hands l cs k = each-made HandsOn (opensThen cs) (fresh l) (every Good HandsOn good-hands (opensThen cs) (opens-good cs k))
 
 begins :
     (l : Buffers) (cs : List Call) (w : World) → Lent l → Every Good cs → worldOver (fresh l) (opensThen cs) ≡ w →
     Reached (fresh l) (madeOver (fresh l) (opensThen cs)) w
-unfolding resetChip
 begins l cs w s k q =
-    let good = opens-good cs k in
-    let whole = all-whole (fresh l) (opensThen cs) (every Good HandsOn (λ c g. g .hands) (opensThen cs) good) in
-    record {
-      fresh = record { chip = refl; tracks = fresh-lock (resetChip .lock) refl .tracks };
-      run = subst (λ v. Run (fresh l) (madeOver (fresh l) (opensThen cs)) v) q (run-possible (opensThen cs) (fresh l) (s .places) whole);
-      typed = each-made Typed (opensThen cs) (fresh l) (every Good Typed (λ c g. g .typed) (opensThen cs) good);
-    }
+    subst (λ v. Reached (fresh l) (madeOver (fresh l) (opensThen cs)) v) q (good-reached l (opensThen cs) (s .places) (opens-good cs k))
 
 start-good : (o : Owners) → Good (start o)
-start-good o = record { typed = tt; hands = record { lends = λ l q. differ cc } }
+start-good o = record { typed = tt; lends-none = λ l q. differ cc }
 
 -- ---- two runs that break it: the song editor's last read shows other bytes
-two-runs :
-    {Begins : Table → World → Type 0} {Asks : Table → Editor → Call → Type 0} {t : Table} → Claims Begins Asks t →
+pub two-runs :
+    {Begins : Table → World → Type 0} {Asks : Table → Editor → Call → Type 0} {Given : Call → Type 0} {t : Table} →
+    Claims Begins Asks Given t →
     ((c : Call) → Asks t Song c → HandsOn c) → (w : World) (cs ds : List Call) → Begins t w → AllPlaces w → Every (Asks t Song) cs →
-    Every (Asks t Song) ds → (b : Beside (PageCall Picture) (madeOver w cs) (madeOver w ds)) → Unaffected t Song w b
-two-runs {Asks = Asks} {t = t} claim hands w cs ds s p f g b =
+    Every (Asks t Song) ds → (b : Beside (PageCall Picture) (madeOver w cs) (madeOver w ds)) → SameReplies Given b → Unaffected t Song w b
+two-runs {Asks = Asks} {t = t} claim hands w cs ds s p f g b j =
     let on = every (Asks t Song) HandsOn hands in
     claim .unaffected Song s (run-possible cs w p (all-whole w cs (on cs f))) (run-possible ds w p (all-whole w ds (on ds g)))
-    (each-made (Asks t Song) cs w f) (each-made (Asks t Song) ds w g) b
+    (each-made (Asks t Song) cs w f) (each-made (Asks t Song) ds w g) b j
 
-abbrev shows : ℕ → Reply
+-- a call of both runs that removes no list
+unremoved : {A : Type 0} (c : Call) → ((handle : ℕ) → c ≡ remove handle → ⊥) → Removal c → A
+unremoved c f r = absurd (no-removal c f r)
+
+abbrev pub shows : ℕ → Reply
 shows b = record { answer = 0; told = byte b }
 
-other-bytes : (m n : ℕ) → (m ≡ n → ⊥) → shows m ≡ shows n → ⊥
+pub other-bytes : (m n : ℕ) → (m ≡ n → ⊥) → shows m ≡ shows n → ⊥
 other-bytes m n d q = let p : byte m ≡ byte n = ap (λ (r : Reply). r .told) q in d cc
 
 -- ---- a read of the other's sprite, and a start that gives a sprite to the other: it moves the sprite in the one run alone
 
--- a chip from reset that is unlocked, with the page mapped
-abbrev mappedChip : Sound → ℕ → Editing → Chip
-mappedChip s ivr x =
-    record {
-      lock = record { unlocked = true; stage = 2 };
-      gate = record { mode = 0; mapped = true };
-      crtc = resetCrtc;
-      video = resetVideo;
-      sprites = replicate 16 offSprite;
-      palette = replicate 64 0;
-      sound = s;
-      interrupts = record { raster = false; «last_raster» = false; ivr = ivr };
-      editing = x;
-    }
-
 abbrev justHeld : Owners → Editing
-justHeld o = record { table = holding o; song = noEntries; picture = noEntries }
+justHeld o = record { table = holding o; song = noEntries; picture = noEntries; lists = noLists }
 
-abbrev held : Buffers → Owners → World
+abbrev pub held : Buffers → Owners → World
 held l o = record { chip = mappedChip resetSound 1 (justHeld o); lent = l }
 
 begins-held : (l : Buffers) (o : Owners) → worldOver (fresh l) (opensThen (start o ∷ [])) ≡ held l o
-unfolding resetChip selected fed nextStage gateWritten gateAfter gateAnswer started
-begins-held l o = refl
+unfolding started
+begins-held l o = opened l (start o ∷ [])
 
-session : (l : Buffers) (o : Owners) → Lent l → Session (holding o) (held l o)
+pub session : (l : Buffers) (o : Owners) → Lent l → Session (holding o) (held l o)
 session l o s =
     record {
       begun = fresh l;
@@ -280,7 +231,7 @@ unmoved l h = rw h refl
 moves-fair : (t : Table) → Fair t Song moves
 moves-fair t = theirs-fair t Song moves (writes 0x6000 5) (omega arith, omega arith)
 
-read-breaks : (l : Buffers) → Lent l → Claims Session AnyRead (holding firstPicture) → ⊥
+read-breaks : (l : Buffers) → Lent l → Claims Session AnyRead Removal (holding firstPicture) → ⊥
 read-breaks l s claim =
     let t = holding firstPicture in
     let w = held l firstPicture in
@@ -288,14 +239,14 @@ read-breaks l s claim =
     record { typed = (omega arith, omega arith); starts = λ o q. differ cc; hands = record { lends = λ k q. differ cc } } in
     let u =
     two-runs claim (λ c f. f .hands) w (moves ∷ looks ∷ []) (looks ∷ []) (session l firstPicture s) (s .places)
-    (any-read (moves-fair t), (asked, tt)) (asked, tt) (first (writes 0x6000 5) (same refl ended)) in
+    (any-read (moves-fair t), (asked, tt)) (asked, tt) (first (writes 0x6000 5) (same refl ended)) (unremoved looks (λ h q. differ cc), tt) in
     other-bytes 5 0 (λ q. omega arith) (sym (moved l (s .store-size)) ∙ u .replies .0 (reads 0x6000 0) ∙ unmoved l (s .store-size))
 
 looks-own : (a bus : ℕ) → looks ≡ read Song a bus → ownOrDcsr (holding allSong) Song (registerAt a) ≡ true
 unfolding registerAt spriteAt
 looks-own a bus q = let p : 0x6000 ≡ a = cc in rw (← p) refl
 
-start-breaks : (l : Buffers) → Lent l → Claims Session AnyStart (holding allSong) → ⊥
+start-breaks : (l : Buffers) → Lent l → Claims Session AnyStart Removal (holding allSong) → ⊥
 unfolding started
 start-breaks l s claim =
     let t = holding allSong in
@@ -307,16 +258,17 @@ start-breaks l s claim =
     let u =
     two-runs claim (λ c f. f .hands) w (start firstPicture ∷ moves ∷ looks ∷ []) (start firstPicture ∷ looks ∷ []) (session l allSong s)
     (s .places) (gives, (any-start (moves-fair t), (asked, tt))) (gives, (asked, tt))
-    (same refl (first (writes 0x6000 5) (same refl ended))) in
+    (same refl (first (writes 0x6000 5) (same refl ended)))
+    (unremoved (start firstPicture) (λ h q. differ cc), (unremoved looks (λ h q. differ cc), tt)) in
     other-bytes 5 0 (λ q. omega arith) (sym (moved l (s .store-size)) ∙ u .replies .1 .0 (reads 0x6000 0) ∙ unmoved l (s .store-size))
 
 -- ---- IVR bit 0 at 0: channels 0 and 2 meet an INT on the same line, and channel 2 is the picture editor's. It clears its own interrupt in
 -- the one run alone; the acknowledge then takes the song editor's
 
-abbrev lastPicture : Owners
+abbrev pub lastPicture : Owners
 lastPicture = record { channels = 4; sprites = 0; palette = 0 }
 
-abbrev off : Accesses
+abbrev pub off : Accesses
 off = record { first = Off; second = Off; third = Off }
 
 -- IVR is 0, the two channels are enabled, a line passes, the table is given
@@ -334,7 +286,7 @@ abbrev firstAndLast : Voice → Sound
 firstAndLast d = record { channels = d ∷ offChannel ∷ d ∷ []; psg = replicate 16 0 }
 
 abbrev unheld : Undo → Editing
-unheld u = record { table = noTable; song = u; picture = noEntries }
+unheld u = record { table = noTable; song = u; picture = noEntries; lists = noLists }
 
 -- the write of IVR is in the song editor's record
 abbrev noted : Buffers → Buffers
@@ -344,6 +296,7 @@ noted l =
       store = l .store;
       song = placesAfter (mappedChip resetSound 1 (unheld noEntries)) Song (l .store) (l .song) 0x6805;
       picture = l .picture;
+      slots = l .slots;
     }
 
 abbrev sounding : Buffers → Voice → World
@@ -352,14 +305,9 @@ sounding l d = record { chip = mappedChip (firstAndLast d) 0 (unheld (pushed noE
 abbrev waiting : Buffers → World
 waiting l = record { chip = mappedChip (firstAndLast waits) 0 (justHeld lastPicture); lent = noted l }
 
-opened : (l : Buffers) (cs : List Call) →
-    worldOver (fresh l) (opensThen cs) ≡ worldOver (record { chip = mappedChip resetSound 1 (unheld noEntries); lent = l }) cs
-unfolding resetChip selected fed nextStage gateWritten gateAfter gateAnswer
-opened l cs = refl
-
 enabled :
     (l : Buffers) → length (l .store) ≡ 4096 →
-    worldOver (record { chip = mappedChip resetSound 1 (unheld noEntries); lent = l }) (write Song 0x6805 0 ∷ write Song 0x6c0f 5 ∷ []) ≡ sounding l playing
+    worldOver (mapped l) (write Song 0x6805 0 ∷ write Song 0x6c0f 5 ∷ []) ≡ sounding l playing
 unfolding writeAnswer pageAnswer registerAt videoAt channelAt pageWritten placesAfter
 enabled l h = rw h (rw h refl)
 
@@ -377,10 +325,10 @@ begins-waiting l s =
 
 raises-good : Every Good raises
 raises-good = (
-  record { typed = (omega arith, omega arith); hands = record { lends = λ l q. differ cc } },
+  record { typed = (omega arith, omega arith); lends-none = λ l q. differ cc },
   (
-    record { typed = (omega arith, omega arith); hands = record { lends = λ l q. differ cc } },
-    (record { typed = tt; hands = record { lends = λ l q. differ cc } }, (start-good lastPicture, tt)),
+    record { typed = (omega arith, omega arith); lends-none = λ l q. differ cc },
+    (record { typed = tt; lends-none = λ l q. differ cc }, (start-good lastPicture, tt)),
   ),
 )
 
@@ -403,7 +351,7 @@ waiting-places l s Picture = s .places Picture
 abbrev clears : Call
 clears = write Picture 0x6c0f 0x10
 
-abbrev asks : Call
+abbrev pub asks : Call
 asks = read Song 0x6c0f 0
 
 taken : (l : Buffers) → length (l .store) ≡ 4096 → replyTo (worldAfter (worldAfter (waiting l) clears) ack) asks ≡ shows 1
@@ -414,11 +362,11 @@ left-waiting : (l : Buffers) → length (l .store) ≡ 4096 → replyTo (worldAf
 unfolding pageAnswer readAnswer registerAt channelAt acknowledgeAnswer acknowledged sourceOf soundServed dcsr
 left-waiting l h = rw h refl
 
-asks-dcsr : (a bus : ℕ) → asks ≡ read Song a bus → ownOrDcsr (holding lastPicture) Song (registerAt a) ≡ true
+pub asks-dcsr : (a bus : ℕ) → asks ≡ read Song a bus → ownOrDcsr (holding lastPicture) Song (registerAt a) ≡ true
 unfolding registerAt channelAt
 asks-dcsr a bus q = let p : 0x6c0f ≡ a = cc in rw (← p) refl
 
-ivr-breaks : (l : Buffers) → Lent l → Claims AnyIvr Fair (holding lastPicture) → ⊥
+ivr-breaks : (l : Buffers) → Lent l → Claims AnyIvr Fair Removal (holding lastPicture) → ⊥
 ivr-breaks l s claim =
     let t = holding lastPicture in
     let host : Fair t Song ack =
@@ -433,16 +381,23 @@ ivr-breaks l s claim =
     let cleared = theirs-fair t Song clears (writes 0x6c0f 0x10) (omega arith, omega arith) in
     let u =
     two-runs claim (λ c f. f .hands) (waiting l) (clears ∷ ack ∷ asks ∷ []) (ack ∷ asks ∷ []) (any-ivr l s) (waiting-places l s)
-    (cleared, (host, (asked, tt))) (host, (asked, tt)) (first (writes 0x6c0f 0x10) (same refl (same refl ended))) in
+    (cleared, (host, (asked, tt))) (host, (asked, tt)) (first (writes 0x6c0f 0x10) (same refl (same refl ended)))
+    (unremoved ack (λ h q. differ cc), (unremoved asks (λ h q. differ cc), tt)) in
     other-bytes 1 65 (λ q. omega arith) (sym (taken l (s .store-size)) ∙ u .replies .1 .0 (reads 0x6c0f 0) ∙ left-waiting l (s .store-size))
 
 -- ---- there are such buffers
 
-abbrev buffers : Buffers
+abbrev pub buffers : Buffers
 buffers =
-    record { ram = 0x10 ∷ 0x40 ∷ replicate 65534 0; store = replicate 4096 0; song = replicate 256 0; picture = replicate 256 0 }
+    record {
+      ram = 0x10 ∷ 0x40 ∷ replicate 65534 0;
+      store = replicate 4096 0;
+      song = replicate 256 0;
+      picture = replicate 256 0;
+      slots = replicate 64 0;
+    }
 
-lent : Lent buffers
+pub lent : Lent buffers
 unfolding wordAt
 lent =
     record {
@@ -450,6 +405,7 @@ lent =
       word = refl;
       store-size = length-replicate {A = ℕ} 4096 0;
       places = each;
+      slots-size = length-replicate {A = ℕ} 64 0;
     }
   where
     each : (e : Editor) → length (placesOf buffers e) ≡ 256
@@ -457,13 +413,13 @@ lent =
     each Picture = length-replicate {A = ℕ} 256 0
 
 -- ---- with IVR bit 0 at 1 the claim holds for every table, without that it fails for one
-pub needs-ivr : ((t : Table) → Claims ThatIvr Fair t) × (Claims AnyIvr Fair (holding lastPicture) → ⊥)
+pub needs-ivr : ((t : Table) → Claims ThatIvr Fair Removal t) × (Claims AnyIvr Fair Removal (holding lastPicture) → ⊥)
 needs-ivr = (with-ivr, ivr-breaks buffers lent)
 
 -- so it is with reads of what the editor owns and DCSR alone
-pub needs-reads : ((t : Table) → Claims Session OwnReads t) × (Claims Session AnyRead (holding firstPicture) → ⊥)
+pub needs-reads : ((t : Table) → Claims Session OwnReads Removal t) × (Claims Session AnyRead Removal (holding firstPicture) → ⊥)
 needs-reads = (with-reads, read-breaks buffers lent)
 
 -- and with starts that give the table that holds
-pub needs-starts : ((t : Table) → Claims Session SameStarts t) × (Claims Session AnyStart (holding allSong) → ⊥)
+pub needs-starts : ((t : Table) → Claims Session SameStarts Removal t) × (Claims Session AnyStart Removal (holding allSong) → ⊥)
 needs-starts = (with-starts, start-breaks buffers lent)

@@ -36,7 +36,7 @@ use Rattle.runs.specs.Call.{Call, write, undo, start, lend, Reply, Typed, answe
 use Rattle.runs.specs.Run.{Made, Makes, Run, ended, on, Each}
 use Rattle.runs.proofs.Calls.{by-answer, fixed, other-places, written, taken}
 use Rattle.runs.proofs.Views.{newestOf, View, feeds, writes, undoes, steps, starts, lends, plain, view}
-use Rattle.noninterference.specs.TwoRuns.{RamAlone, ram, HandsOn, Fair, Stays}
+use Rattle.noninterference.specs.TwoRuns.{HostLoan, ram, slots, HandsOn, Fair, Stays}
 use Rattle.noninterference.proofs.Sames.{clash}
 use Rattle.noninterference.proofs.Puts.{answer-owns, ivr-not}
 
@@ -182,28 +182,30 @@ reset-owned {w} i = record { each = λ g. go (w .chip) i g }
 
 -- one that leaves the table and the records
 unmoved :
-    {w v : World} {c : Call} {r : Reply} → Makes w c r v → servedWorld w c .chip .editing ≡ w .chip .editing →
+    {w v : World} {c : Call} {r : Reply} → Makes w c r v → servedWorld w c .chip .editing .table ≡ w .chip .editing .table →
+    ((g : Editor) → undoOf (servedWorld w c .chip .editing) g ≡ undoOf (w .chip .editing) g) →
     ((g : Editor) → placesOf (servedWorld w c .lent) g ≡ placesOf (w .lent) g) → Owned w → Owned v
 unfolding recordOf
-unmoved {w} {c = c} k i j o =
-    rw (fixed k .world-is) (by-answer Owned w c (λ z. record { each = λ g. rw (i, j g) (o .each g) }) o)
+unmoved {w} {c = c} k t i j o =
+    rw (fixed k .world-is) (by-answer Owned w c (λ z. record { each = λ g. rw (t, i g, j g) (o .each g) }) o)
 
-ram-places : (w : World) (l : Loan) → RamAlone l → (g : Editor) → placesOf (servedWorld w (lend l) .lent) g ≡ placesOf (w .lent) g
-ram-places w l (ram x) g = refl
+host-places : (w : World) (l : Loan) → HostLoan l → (g : Editor) → placesOf (servedWorld w (lend l) .lent) g ≡ placesOf (w .lent) g
+host-places w l (ram x) g = refl
+host-places w l (slots x) g = refl
 
 pub own-step : {w v : World} {c : Call} {r : Reply} → View w c → Makes w c r v → Typed c → HandsOn c → Owned w → Owned v
 unfolding stepped countersStepped started
-own-step (feeds b l) k t h o = unmoved k (l .editing) (λ g. rw (l .lent)) o
+own-step (feeds b l) k t h o = unmoved k (l .table) (l .undo-record) (l .places) o
 own-step {w} (writes f a b e) k t h o =
     owned-by (ap (λ (u : World). u .chip .editing .table) (fixed k .world-is) ∙ write-table w f a b) (λ g. write-each k (t .0) o (which g f))
 own-step {w} (undoes f e) k t h o =
     owned-by (ap (λ (u : World). u .chip .editing .table) (fixed k .world-is) ∙ undo-table w f) (λ g. undo-each k o (which g f))
-own-step (steps a l) k t h o = unmoved k (rw (l .next)) (λ g. rw (l .next)) o
+own-step (steps a l) k t h o = unmoved k (rw (l .next)) (λ g. rw (l .next)) (λ g. rw (l .next)) o
 own-step {w} (starts q) k t h o =
     rw (fixed k .world-is)
     (record { each = λ g. empty-own (started (w .chip) q .editing) (placesOf (w .lent) g) (started-none g (w .chip) q) })
-own-step {w} (lends l) k t h o = unmoved k refl (ram-places w l (h .lends l refl)) o
-own-step (plain s q l) k t h o = unmoved k (l .editing) (λ g. rw (l .lent)) o
+own-step {w} (lends l) k t h o = unmoved k refl (λ g. refl) (host-places w l (h .lends l refl)) o
+own-step (plain s q l) k t h o = unmoved k (l .table) (l .undo-record) (l .places) o
 
 -- and over a run
 pub run-owned :
@@ -305,10 +307,10 @@ pub stays-step :
     {w v : World} {c : Call} {r : Reply} {t : Table} {e : Editor} {i : ℕ} → t .held ≡ true → View w c → Makes w c r v → Fair t e c →
     Owned w → Stays t i w → Stays t i v
 unfolding stepped countersStepped
-stays-step held (feeds b l) k f o s = both-stay k (rw (l .editing)) (l .ivr) s
+stays-step held (feeds b l) k f o s = both-stay k (l .table) (l .ivr) s
 stays-step held (writes g a b e) k f o s = write-stays held k s
 stays-step held (undoes g e) k f o s = undo-stays held k o s
 stays-step held (steps a l) k f o s = both-stay k (rw (l .next)) (rw (l .next)) s
 stays-step held (starts q) k f o s = start-stays k (f .starts q refl) s
 stays-step held (lends l) k f o s = both-stay k refl refl s
-stays-step held (plain p q l) k f o s = both-stay k (rw (l .editing)) (l .ivr) s
+stays-step held (plain p q l) k f o s = both-stay k (l .table) (l .ivr) s

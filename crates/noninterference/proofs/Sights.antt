@@ -27,7 +27,7 @@ use Rattle.runs.specs.World.{World, placesOf}
 use Rattle.runs.specs.Call.{Call, read, write, undo, answerTo, servedWorld, worldAfter}
 use Rattle.runs.proofs.Calls.{by-answer, edited-places, other-places}
 use Rattle.runs.proofs.Views.{newestOf}
-use Rattle.noninterference.specs.TwoRuns.{PageCall, reads, writes, undoes, Stays}
+use Rattle.noninterference.specs.TwoRuns.{PageCall, reads, writes, undoes, roomOf, Stays}
 use Rattle.noninterference.proofs.Sames.{clash}
 use Rattle.noninterference.proofs.Blocks.{Blocks, blocks-self, blocks-back, blocks-on, blocks-as}
 use Rattle.noninterference.proofs.Puts.{put-same, put-other, contents-same}
@@ -35,19 +35,19 @@ use Rattle.noninterference.proofs.Records.{Owned, may-own, newest-may, 
 
 pub record Sight (t : Table) (e : Editor) (w v : World) : Type 0 where
   pub blocks : Blocks t e (w .chip) (w .lent .store) (v .chip) (v .lent .store)
-  pub ram : w .lent .ram ≡ v .lent .ram
+  pub room : roomOf w ≡ roomOf v
   pub undo-record : undoOf (w .chip .editing) e ≡ undoOf (v .chip .editing) e
   pub places : placesOf (w .lent) e ≡ placesOf (v .lent) e
 
 module _ {t : Table} {e : Editor} where
   pub sight-self : (w : World) → Sight t e w w
-  sight-self w = record { blocks = blocks-self _ _; ram = refl; undo-record = refl; places = refl }
+  sight-self w = record { blocks = blocks-self _ _; room = refl; undo-record = refl; places = refl }
 
   pub sight-back : {w v : World} → Sight t e w v → Sight t e v w
   sight-back s =
       record {
         blocks = blocks-back (s .blocks);
-        ram = sym (s .ram);
+        room = sym (s .room);
         undo-record = sym (s .undo-record);
         places = sym (s .places);
       }
@@ -56,7 +56,7 @@ module _ {t : Table} {e : Editor} where
   sight-on s r =
       record {
         blocks = blocks-on (s .blocks) (r .blocks);
-        ram = s .ram ∙ r .ram;
+        room = s .room ∙ r .room;
         undo-record = s .undo-record ∙ r .undo-record;
         places = s .places ∙ r .places;
       }
@@ -74,7 +74,7 @@ both-answer P w v c same f g = go (eqb (answerTo w c) done) (eqb (answerTo v c) 
     go false false h k = g
 
 -- other records and tables are no block
-with-editing :
+pub with-editing :
     {t : Table} {e : Editor} {c d : Chip} {l m : List ℕ} (x y : Editing) → Blocks t e c l d m →
     Blocks t e (withEditing c x) l (withEditing d y) m
 with-editing {c = c} {d = d} x y v =
@@ -100,7 +100,7 @@ module _ {t : Table} {i : ℕ} (held : t .held ≡ true) (e : Editor) (w : World
         blocks =
             beside-editing _
             (put-other t held e (w .chip) (w .lent .store) (s .table) three (registerAt a) b (b % 16) (written-may t w (other e) a b (s .table) z));
-        ram = refl;
+        room = refl;
         undo-record = sym (other-record e (w .chip .editing) _);
         places = sym (other-places w e (w .chip) (w .lent .store) _);
       })
@@ -117,7 +117,7 @@ module _ {t : Table} {i : ℕ} (held : t .held ≡ true) (e : Editor) (w : World
             beside-editing _
             (put-other t held e (w .chip) (w .lent .store) (s .table) three (entryRegister x) (entryContents x) (entryContents x)
             (newest-may t w (other e) (own-as (s .table) o (other e)) z));
-        ram = refl;
+        room = refl;
         undo-record = sym (other-record e (w .chip .editing) _);
         places = sym (other-places w e (w .chip) (w .lent .store) _);
       })
@@ -174,7 +174,7 @@ module _ {t : Table} {i j : ℕ} (held : t .held ≡ true) (e : Editor) (w v : W
       let h = written-may t w e a b (p .table) z in
       record {
         blocks = with-editing _ _ (put-same t held e e (p .table) (q .table) (registerAt a) b (b % 16) h (s .blocks));
-        ram = s .ram;
+        room = s .room;
         undo-record =
             own-record e (w .chip .editing) _ ∙ ap (λ (u : Undo). undoAfter u (registerAt a)) (s .undo-record)
             ∙ sym (own-record e (v .chip .editing) _);
@@ -193,7 +193,7 @@ module _ {t : Table} {i j : ℕ} (held : t .held ≡ true) (e : Editor) (w v : W
       (λ z.
       record {
         blocks = with-editing _ _ (go (newestOf v e) newest-same (newest-may t w e (own-as (p .table) o e) z));
-        ram = s .ram;
+        room = s .room;
         undo-record = own-record e (w .chip .editing) _ ∙ ap popped (s .undo-record) ∙ sym (own-record e (v .chip .editing) _);
         places =
             edited-places w e (w .chip) (w .lent .store) _ ∙ s .places ∙ sym (edited-places v e (v .chip) (v .lent .store) _);

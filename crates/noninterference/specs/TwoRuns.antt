@@ -1,4 +1,4 @@
--- 02, L9: while a table holds, what one editor does is not felt by the other. One claim over two runs of calls.
+-- 02, L9 and L12: while a table holds, what one editor does is not felt by the other. One claim over two runs of calls.
 use mathlib.Core.Path.{_≡_}
 use mathlib.Core.Bool.{Bool, true}
 use mathlib.Core.List.{List}
@@ -11,11 +11,13 @@ use Rattle.editors.specs.Table.{other, holding}
 use Rattle.registers.specs.declared.address.Register.{Register}
 use Rattle.registers.specs.Address.{registerAt}
 use Rattle.registers.specs.Owners.{owns}
+use Rattle.lists.specs.declared.Area.{Area}
+use Rattle.chip.specs.Editors.{listsOf}
 use Rattle.contents.specs.Contents.{contents}
 use Rattle.contents.specs.Shown.{showsDcsr}
 use Rattle.page.specs.UndoRecord.{recordIn}
-use Rattle.runs.specs.World.{World, placesOf, Loan, lentRam}
-use Rattle.runs.specs.Call.{Call, read, write, undo, start, lend, Typed}
+use Rattle.runs.specs.World.{World, placesOf, Loan, lentRam, lentSlots}
+use Rattle.runs.specs.Call.{Call, read, write, undo, start, remove, lend, Typed}
 use Rattle.runs.specs.Run.{Made, Run, Each}
 use Rattle.runs.specs.Reached.{Reached}
 use Rattle.runs.specs.Pair.{Beside, SameReplies, Throughout}
@@ -32,12 +34,17 @@ pub data PageCall (e : Editor) : Call → Type 0 where
 abbrev pub ownOrDcsr : Table → Editor → Register → Bool
 ownOrDcsr t e x = either (owns t e x) (showsDcsr x)
 
--- pixel store and both records' places are handed on from call to call; RAM is only read, and the host may lend another
-pub data RamAlone : Loan → Type 0 where
-  ram : (l : List ℕ) → RamAlone (lentRam l)
+-- the host removes a list
+pub data Removal : Call → Type 0 where
+  removes : (handle : ℕ) → Removal (remove handle)
+
+-- pixel store and both records' places are handed on from call to call; RAM and the places of lists are the host's, which may lend others
+pub data HostLoan : Loan → Type 0 where
+  ram : (l : List ℕ) → HostLoan (lentRam l)
+  slots : (l : List ℕ) → HostLoan (lentSlots l)
 
 pub record HandsOn (c : Call) : Type 0 where
-  pub lends : (l : Loan) → c ≡ lend l → RamAlone l
+  pub lends : (l : Loan) → c ≡ lend l → HostLoan l
 
 -- what is asked of each call of the two runs: its arguments are of the call's types; this editor reads only what it owns and DCSR; a
 -- start gives the table that holds; and buffers are handed on. A reset is no call of a run
@@ -72,17 +79,27 @@ pub record Stays (t : Table) (ivr : ℕ) (w : World) : Type 0 where
   pub table : w .chip .editing .table ≡ t
   pub ivr-same : w .chip .interrupts .ivr ≡ ivr
 
+-- what placed lists are kept in: the area with its handles, their places, and RAM
+pub record Room : Type 0 where
+  pub lists : Area
+  pub slots : List ℕ
+  pub ram : List ℕ
+
+abbrev pub roomOf : World → Room
+roomOf w = record { lists = listsOf (w .chip); slots = w .lent .slots; ram = w .lent .ram }
+
 -- of two runs from one world, whose calls are the same but for the other editor's: this editor gets the same replies, call by call, and
--- all that it can tell is the same after every call
+-- all that it can tell is the same after every call, RAM and the placed lists with it
 pub record Unaffected (t : Table) (e : Editor) (w : World) {es fs : List Made} (b : Beside (PageCall (other e)) es fs) : Type 0 where
   pub replies : SameReplies (PageCall e) b
   pub throughout : Throughout (SameFor t e) w w b
+  pub room : Throughout (λ v u. roomOf v ≡ roomOf u) w w b
   pub first-stays : Each (λ m. Stays t (w .chip .interrupts .ivr) (m .after)) es
   pub second-stays : Each (λ m. Stays t (w .chip .interrupts .ivr) (m .after)) fs
 
--- ---- the claim, for either editor
+-- ---- the claim, for either editor, where each removal by the host is answered alike in both runs
 pub record Noninterference (t : Table) : Type 0 where
   pub unaffected :
       (e : Editor) {w v u : World} {es fs : List Made} → Session t w → Run w es v → Run w fs u →
       Each (λ m. Fair t e (m .asks)) es → Each (λ m. Fair t e (m .asks)) fs →
-      (b : Beside (PageCall (other e)) es fs) → Unaffected t e w b
+      (b : Beside (PageCall (other e)) es fs) → SameReplies Removal b → Unaffected t e w b

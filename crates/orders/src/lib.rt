@@ -21,11 +21,12 @@ pub fn serve(
     store: &mut [u8],
     song: &mut [u32; 256],
     picture: &mut [u32; 256],
+    slots: &mut [u32; 64],
     out: &mut [u8],
     o: Order,
 ) -> Machine
     requires { ⌜ (m .at + 1024 ≤ length (now out)) × (length (now ram) ≡ 65536) ⌝ }
-    ensures { λ r. ⌜ Serves (runningOf m (now (ram .entry)) (now (store .entry)) (now (song .entry)) (now (picture .entry))) o (runningOf r (now (ram .exit)) (now (store .exit)) (now (song .exit)) (now (picture .exit))) (now (out .entry)) (m .at) (now (out .exit)) (r .at) ⌝ }
+    ensures { λ r. ⌜ Serves (runningOf m (now (ram .entry)) (now (store .entry)) (now (song .entry)) (now (picture .entry)) (now (slots .entry))) o (runningOf r (now (ram .exit)) (now (store .exit)) (now (song .exit)) (now (picture .exit)) (now (slots .exit))) (now (out .entry)) (m .at) (now (out .exit)) (r .at) ⌝ }
 {
     let op = o.op;
     let address = o.address;
@@ -48,6 +49,9 @@ pub fn serve(
         b'M' => calls::poked(m, ram, out, address, value),
         b'T' => calls::kept_waiting(m, out, address, value),
         b'S' => calls::started(m, out),
+        b'N' => calls::area_given(m, out),
+        b'K' => calls::list_placed(m, ram, slots, out, address, value),
+        b'X' => calls::list_removed(m, slots, out, value),
         b'Z' => calls::reset(m, out),
         _ => calls::not_known(m, out),
     }

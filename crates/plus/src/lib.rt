@@ -9,6 +9,7 @@ use listing::ReadBack;
 use mend::Change;
 use mend::Mended;
 use page::ByteRead;
+use placing::PlacedList;
 use replay::Replayed;
 use sound::Accesses;
 use sound::Did;
@@ -26,6 +27,7 @@ ghost use Rattle.chip.specs.Reset.{Reset};
 ghost use Rattle.editors.specs.Table.{editorBy};
 ghost use Rattle.picture.specs.Palette.{greyOf};
 ghost use Rattle.page.specs.Page.{Reads, Writes};
+ghost use Rattle.placing.specs.Contract.{GivesArea};
 ghost use Rattle.export.specs.Export.{Exports};
 ghost use Rattle.listing.specs.Contract.{PrintsWords, ReadsText};
 ghost use Rattle.mend.specs.Rule.{changeAt};
@@ -38,6 +40,7 @@ ghost use Rattle.plus.specs.Promises.{LineTold, LengthTold};
 ghost use Rattle.plus.specs.Undo.{UndoTold};
 ghost use Rattle.plus.specs.Start.{StartTold};
 ghost use Rattle.plus.specs.Mend.{MendTold};
+ghost use Rattle.plus.specs.Lists.{PlaceTold, RemoveTold};
 ghost use Rattle.plus.specs.Built.{Built};
 
 // A line's answer, without enums: of each channel the number of what it did, and the low 12 bits of its word.
@@ -74,8 +77,8 @@ pub extern "C" fn plus_built() -> PlusBuilt
     ensures { λ r. ⌜ Built r ⌝ }
 {
     PlusBuilt {
-        version: 1200,
-        state: 256,
+        version: 1300,
+        state: 272,
     }
 }
 
@@ -166,6 +169,35 @@ pub extern "C" fn plus_undo(
     ensures { λ r. ⌜ UndoTold chip (editorBy editor) (now (store .entry)) (now (places .entry)) (now (store .exit)) r ⌝ }
 {
     page::undo(chip, editors::editor_by(editor), store, places)
+}
+
+// Gives the area of RAM for lists, by its bounds.
+#[no_mangle]
+pub extern "C" fn plus_area(chip: Chip, from: u32, upto: u32) -> Answered
+    ensures { λ r. ⌜ GivesArea chip from upto r ⌝ }
+{
+    placing::area(chip, from, upto)
+}
+
+// Places a list in the area, with the places of the lists lent, and copies it into RAM.
+#[no_mangle]
+pub extern "C" fn plus_place(
+    chip: Chip,
+    places: &mut [u32; 64],
+    ram: &mut [u8],
+    list: &[u8],
+) -> PlacedList
+    ensures { λ r. ⌜ PlaceTold chip (now (places .entry)) (now (ram .entry)) (now (list .entry)) (now (places .exit)) (now (ram .exit)) r ⌝ }
+{
+    placing::place(chip, places, ram, list)
+}
+
+// Removes a placed list, by its handle.
+#[no_mangle]
+pub extern "C" fn plus_remove(chip: Chip, places: &[u32; 64], handle: u32) -> Answered
+    ensures { λ r. ⌜ RemoveTold chip (now (places .entry)) handle r ⌝ }
+{
+    placing::remove(chip, places, handle)
 }
 
 // The contents of the registers outside the pixels, into 477 bytes.

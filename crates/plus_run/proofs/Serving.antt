@@ -11,9 +11,9 @@ use Rattle.plus_run.specs.Blocks.{Takes, Roomy, orderServed, ordersServe
 
 -- the order at a place of a block is served, once there is room
 pub served-order :
-    {m q : Machine} {s' : Running} {ram store song picture out after block : List ℕ} {o : Order} {at' i : ℕ} →
-    Roomy m out q → Takes block i o → Serves (runningOf q ram store song picture) o s' out (q .at) after at' →
-    s' ≡ orderServed (runningOf m ram store song picture) block i
+    {m q : Machine} {s' : Running} {ram store song picture slots out after block : List ℕ} {o : Order} {at' i : ℕ} →
+    Roomy m out q → Takes block i o → Serves (runningOf q ram store song picture slots) o s' out (q .at) after at' →
+    s' ≡ orderServed (runningOf m ram store song picture slots) block i
 unfolding orderServed
 served-order same t k = k .does .state ∙ rw (t .letter, t .place, t .byte, same .chip, same .waiting)
 

@@ -60,16 +60,26 @@ fn turn(
     store: &mut [u8],
     song: &mut [u32; 256],
     picture: &mut [u32; 256],
+    slots: &mut [u32; 64],
     out: &mut [u8],
     block: &[u8],
     i: usize,
 ) -> Machine
     requires { ⌜ (Ready m (now ram) (now out)) × (i + 4 ≤ length (now block)) ⌝ }
     ensures { λ r. ⌜ Ready r (now (ram .exit)) (now (out .exit)) ⌝ }
-    ensures { λ r. ⌜ runningOf r (now (ram .exit)) (now (store .exit)) (now (song .exit)) (now (picture .exit)) ≡ orderServed (runningOf m (now (ram .entry)) (now (store .entry)) (now (song .entry)) (now (picture .entry))) (now (block .entry)) i ⌝ }
+    ensures { λ r. ⌜ runningOf r (now (ram .exit)) (now (store .exit)) (now (song .exit)) (now (picture .exit)) (now (slots .exit)) ≡ orderServed (runningOf m (now (ram .entry)) (now (store .entry)) (now (song .entry)) (now (picture .entry)) (now (slots .entry))) (now (block .entry)) i ⌝ }
 {
     let ready = with_room(m, out);
-    orders::serve(ready, ram, store, song, picture, out, order_at(block, i))
+    orders::serve(
+        ready,
+        ram,
+        store,
+        song,
+        picture,
+        slots,
+        out,
+        order_at(block, i),
+    )
 }
 
 // Every whole order of a block.
@@ -79,18 +89,19 @@ fn orders(
     store: &mut [u8],
     song: &mut [u32; 256],
     picture: &mut [u32; 256],
+    slots: &mut [u32; 64],
     out: &mut [u8],
     block: &[u8],
 ) -> Machine
     requires { ⌜ Ready m (now ram) (now out) ⌝ }
     ensures { λ r. ⌜ Ready r (now (ram .exit)) (now (out .exit)) ⌝ }
-    ensures { λ r. ⌜ runningOf r (now (ram .exit)) (now (store .exit)) (now (song .exit)) (now (picture .exit)) ≡ ordersServed (runningOf m (now (ram .entry)) (now (store .entry)) (now (song .entry)) (now (picture .entry))) (now (block .entry)) (length (now (block .entry)) / 4) ⌝ }
+    ensures { λ r. ⌜ runningOf r (now (ram .exit)) (now (store .exit)) (now (song .exit)) (now (picture .exit)) (now (slots .exit)) ≡ ordersServed (runningOf m (now (ram .entry)) (now (store .entry)) (now (song .entry)) (now (picture .entry)) (now (slots .entry))) (now (block .entry)) (length (now (block .entry)) / 4) ⌝ }
 {
     let whole = block.len() / 4;
     let mut machine = m;
     let mut k = 0;
     while k < whole {
-        machine = turn(machine, ram, store, song, picture, out, block, k * 4);
+        machine = turn(machine, ram, store, song, picture, slots, out, block, k * 4);
         k += 1;
     }
     machine
@@ -116,6 +127,7 @@ fn block_played(
     store: &mut [u8],
     song: &mut [u32; 256],
     picture: &mut [u32; 256],
+    slots: &mut [u32; 64],
     out: &mut [u8],
     block: &mut [u8],
 ) -> Progress
@@ -123,7 +135,7 @@ fn block_played(
     ensures { λ r. ⌜ Ready (r .machine) (now (ram .exit)) (now (out .exit)) ⌝ }
 {
     let n = io::read_full(STDIN_FILENO, block);
-    let played = orders(m, ram, store, song, picture, out, &block[..n]);
+    let played = orders(m, ram, store, song, picture, slots, out, &block[..n]);
     if n == block.len() {
         return Progress {
             machine: played,
@@ -144,6 +156,7 @@ fn blocks(
     store: &mut [u8],
     song: &mut [u32; 256],
     picture: &mut [u32; 256],
+    slots: &mut [u32; 64],
     out: &mut [u8],
     block: &mut [u8],
 ) -> Machine
@@ -156,7 +169,16 @@ fn blocks(
     };
     let mut turns: u64 = 0x100000000;
     while turns > 0 && progress.more {
-        progress = block_played(progress.machine, ram, store, song, picture, out, block);
+        progress = block_played(
+            progress.machine,
+            ram,
+            store,
+            song,
+            picture,
+            slots,
+            out,
+            block,
+        );
         turns -= 1;
     }
     progress.machine
@@ -170,6 +192,7 @@ fn play(ram: &mut [u8], store: &mut [u8])
     let mut block = io::large_buffer();
     let mut song = [0u32; 256];
     let mut picture = [0u32; 256];
+    let mut slots = [0u32; 64];
     let first = Machine {
         chip: chip::start::reset(),
         waiting: [0; 16],
@@ -181,6 +204,7 @@ fn play(ram: &mut [u8], store: &mut [u8])
         store,
         &mut song,
         &mut picture,
+        &mut slots,
         &mut out,
         &mut block,
     );

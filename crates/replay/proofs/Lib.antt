@@ -1,5 +1,6 @@
 -- Laws of a take played.
 pub mod Lines
+pub mod Slots
 pub mod Asks
 pub mod Counts
 pub mod Playing

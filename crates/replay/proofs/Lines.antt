@@ -85,7 +85,7 @@ few-over :
     (record { world = worldOver (p .world) cs; lines = p .lines; counts = refusalCounted (p .counts) (answerIn (p .world) cs) })
     more
 few-over p cs more none = refl
-few-over p cs more (one {c} e h) =
+few-over p cs more (one {c} e h u) =
     let w = worldAfter (p .world) c in
     let next = refusalCounted (p .counts) (answerTo (p .world) c) in
     let same :

@@ -9,6 +9,7 @@ use lib.ListN.{length}
 use Rattle.common.specs.Answers.{badRecord}
 use Rattle.common.specs.Choice.{if}
 use Rattle.editors.specs.declared.Owners.{Owners}
+use Rattle.chip.specs.Editors.{listsOf}
 use Rattle.take.specs.Record.{firstBad}
 use Rattle.take.specs.Open.{openAnswer, recordsOf, Opening}
 use Rattle.replay.specs.declared.Player.{Player}
@@ -17,6 +18,7 @@ use Rattle.replay.specs.Replay.{Progress, fresh, replayed}
 use Rattle.replay.specs.Contract.{replayAnswer, outcome, Replays}
 use Rattle.replay.specs.Parts.{progressBy, Begun, Tells}
 use Rattle.replay.proofs.ByHand.{as-by-hand}
+use Rattle.replay.proofs.Possible.{reset-no-area, replayed-no-area}
 
 -- the answer by the lengths
 module _ (ram store file : List ℕ) where
@@ -51,6 +53,7 @@ module _ {ram store song picture file : List ℕ} {o : Owners} {p : Player} {r :
         store-after = simp z;
         song-after = simp z;
         picture-after = simp z;
+        no-area = ap listsOf (t .chip ∙ b .chip) ∙ reset-no-area;
         by-hand = λ d. absurd (n (sym (t .answer) ∙ d));
       }
 
@@ -74,7 +77,7 @@ pub plays :
     progressBy p ram store' song' picture' ≡ replayed o (fresh ram store song picture) (recordsOf file) → Tells 0 0 p r →
     Replays ram store song picture o file store' song' picture' r
 unfolding outcome
-plays {ram} {store} {file = file} e k z s t =
+plays {ram} {store} {song} {picture} {file} {o = o} e k z s t =
     let d : replayAnswer ram store file ≡ 0 = e ∙ sym (k .answered) ∙ z in
     record {
       answer = t .answer ∙ sym d;
@@ -85,5 +88,6 @@ plays {ram} {store} {file = file} e k z s t =
       store-after = simp d (ap (λ (q : Progress). q .world .lent .store) s);
       song-after = simp d (ap (λ (q : Progress). q .world .lent .song) s);
       picture-after = simp d (ap (λ (q : Progress). q .world .lent .picture) s);
+      no-area = ap listsOf (t .chip ∙ ap (λ (q : Progress). q .world .chip) s) ∙ replayed-no-area ram store song picture o (recordsOf file);
       by-hand = λ y log w h. as-by-hand (rw (t .chip, t .lines, t .counts) s) h;
     }

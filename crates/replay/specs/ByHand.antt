@@ -10,11 +10,11 @@ use Rattle.runs.specs.Run.{Made, Run, callsOf}
 use Rattle.replay.specs.declared.Replayed.{Replayed}
 use Rattle.replay.specs.Replay.{callsFrom, noCounts, linesOver, countsOver}
 
--- from a chip that reset gives, with these buffers lent; every start gives these owners
+-- from a chip that reset gives, with these buffers lent, and any places of lists; every start gives these owners
 pub record ByHand (ram store song picture : List ℕ) (o : Owners) (rs : List Record) (log : List Made) (w : World) : Type 0 where
   pub start : World
   pub fresh : reset.Learnt tt tt (start .chip) tt
-  pub lent : start ≡ worldOf (start .chip) ram store song picture
+  pub lent : start ≡ worldOf (start .chip) ram store song picture (start .lent .slots)
   pub run : Run start log w
   pub calls : callsOf log ≡ callsFrom o 0 rs
 

@@ -1,4 +1,4 @@
--- Requests L8 and L9: what replay promises.
+-- Requests L8, L9 and L12: what replay promises.
 use mathlib.Core.Path.{_≡_}
 use mathlib.Core.List.{List}
 use Prim.Native.Nat.{ℕ}
@@ -8,6 +8,8 @@ use Rattle.common.specs.Answers.{done, wrongLength, badRecord, served}
 use Rattle.common.specs.Choice.{if, both}
 use Rattle.common.specs.Sizes.{ramBytes, storeBytes}
 use Rattle.editors.specs.declared.Owners.{Owners}
+use Rattle.lists.specs.Area.{noLists}
+use Rattle.chip.specs.Editors.{listsOf}
 use Rattle.take.specs.Record.{firstBad}
 use Rattle.take.specs.Open.{openAnswer, recordsOf}
 use Rattle.runs.specs.World.{World}
@@ -27,7 +29,7 @@ outcome ram store song picture o file =
     let at-reset = fresh ram store song picture in
     served (replayAnswer ram store file) (replayed o at-reset (recordsOf file)) at-reset
 
--- and where it is served, what making the calls by hand gives
+-- a take has no call on lists, so that the chip has no area; and where it is served, what making the calls by hand gives
 pub record Replays (ram store song picture : List ℕ) (o : Owners) (file store' song' picture' : List ℕ) (r : Replayed) : Type 0 where
   pub answer : r .answer ≡ replayAnswer ram store file
   pub bad : r .bad ≡ if (eqb (replayAnswer ram store file) badRecord) (firstBad (recordsOf file)) 0
@@ -37,6 +39,7 @@ pub record Replays (ram store song picture : List ℕ) (o : Owners) (file store'
   pub store-after : store' ≡ outcome ram store song picture o file .world .lent .store
   pub song-after : song' ≡ outcome ram store song picture o file .world .lent .song
   pub picture-after : picture' ≡ outcome ram store song picture o file .world .lent .picture
+  pub no-area : listsOf (r .chip) ≡ noLists
   pub by-hand :
       r .answer ≡ done → (log : List Made) (w : World) → ByHand ram store song picture o (recordsOf file) log w →
       AsByHand log w store' song' picture' r

@@ -25,7 +25,7 @@ use Rattle.replay.specs.Replay.{Progress, noCounts, callBy, later, refus
 -- how far a replay is, with the lent buffers
 abbrev pub progressBy : Player → List ℕ → List ℕ → List ℕ → List ℕ → Progress
 progressBy p ram store song picture =
-    record { world = worldOf (p .chip) ram store song picture; lines = p .lines; counts = p .counts }
+    record { world = worldOf (p .chip) ram store song picture []; lines = p .lines; counts = p .counts }
 
 -- a chip with what lines move
 abbrev pub moved : Chip → Sound → Crtc → Bool → Chip
@@ -57,9 +57,9 @@ pub record Room (counts : List ℕ) : Type 0 where
 
 -- the call of a record made, whatever RAM there is
 pub record Calls (c : Chip) (store song picture : List ℕ) (o : Owners) (r : Record) (store' song' picture' : List ℕ) (a : Answered) : Type 0 where
-  pub answer : (ram : List ℕ) → a .answer ≡ answerIn (worldOf c ram store song picture) (callBy o r)
+  pub answer : (ram : List ℕ) → a .answer ≡ answerIn (worldOf c ram store song picture []) (callBy o r)
   pub world :
-      (ram : List ℕ) → worldOf (a .chip) ram store' song' picture' ≡ worldOver (worldOf c ram store song picture) (callBy o r)
+      (ram : List ℕ) → worldOf (a .chip) ram store' song' picture' [] ≡ worldOver (worldOf c ram store song picture []) (callBy o r)
 
 -- a take that opens; its count is a number of 4 bytes
 pub record Opened (file : List ℕ) : Type 0 where

@@ -70,9 +70,9 @@ pub record Progress : Type 0 where
   pub lines : ℕ
   pub counts : List ℕ
 
--- at reset
+-- at reset; a take places no list, so no places of lists are lent
 abbrev pub fresh : List ℕ → List ℕ → List ℕ → List ℕ → Progress
-fresh ram store song picture = record { world = worldOf resetChip ram store song picture; lines = 0; counts = noCounts }
+fresh ram store song picture = record { world = worldOf resetChip ram store song picture []; lines = 0; counts = noCounts }
 
 -- after calls
 abbrev pub over : Progress → List Call → Progress

@@ -7,15 +7,22 @@ use lib.Dec.{eqb}
 use lib.ListN.{length, length-replicate, replicate}
 use contract.Lifetimes.{Lfts}
 use denote.Ref.{RefT, now}
-use borrow.Author.Tests.{eqb-true, eq-eqb, ne-eqb}
+use borrow.Author.Tests.{eqb-true, eqb-false, eq-eqb, ne-eqb}
 use Rattle.common.specs.Answers.{done, served}
 use Rattle.common.specs.Choice.{if}
 use Rattle.editors.specs.declared.Editor.{Editor}
 use Rattle.editors.specs.declared.Editor.the-variants.{Song, Picture}
 use Rattle.editors.specs.Table.{other}
 use Rattle.lock.proofs.Steps.{feeds}
+use Rattle.lists.specs.Area.{areaOf}
+use Rattle.lists.specs.Place.{Places}
+use Rattle.lists.specs.Remove.{withoutList}
+use Rattle.lists.specs.declared.Placed.{Placed}
+use Rattle.lists.proofs.Only.{only, refused-keeps}
+use Rattle.lists.proofs.Some.{some}
 use Rattle.chip.specs.declared.Chip.{Chip}
 use Rattle.chip.specs.Contracts.{Answers}
+use Rattle.chip.specs.Editors.{listsOf, withLists}
 use Rattle.chip.specs.Ports.{selected, Selects, dataAnswer, dataWritten, gateAnswer, gateWritten}
 use Rattle.chip.specs.Interrupts.{acknowledged}
 use Rattle.chip.specs.Step.{stepAnswer, stepped}
@@ -25,8 +32,8 @@ use Rattle.registers.specs.Registers.{storeWritten}
 use Rattle.page.specs.Page.{pageWritten, placesAfter, Writes}
 use Rattle.page.specs.Undo.{newest, undone, storeUndone, Undoes}
 use Rattle.page.proofs.Ways.{write-possible, undo-possible}
-use Rattle.runs.specs.World.{World, placesOf, withChip, edited}
-use Rattle.runs.specs.Call.{Call, bc, bd, gate, read, write, undo, ack, line, step, start, lend, Reply, answerTo, servedWorld, replyTo, worldAfter}
+use Rattle.runs.specs.World.{World, placesOf, withChip, edited, roomed}
+use Rattle.runs.specs.Call.{Call, bc, bd, gate, read, write, undo, ack, line, step, start, area, place, remove, lend, placed, Reply, answerTo, servedWorld, replyTo, worldAfter}
 use Rattle.runs.specs.Run as run
 use Rattle.runs.specs.Run.{Makes}
 
@@ -78,6 +85,16 @@ store-served n w e next store = go (eqb n done)
     go true = refl
     go false = unedited w e
 
+-- a refused placing leaves all as it was, so that its world needs no choice
+pub place-served : (w : World) (list : List ℕ) → servedWorld w (place list) ≡ worldAfter w (place list)
+place-served w list = go (eqb (answerTo w (place list)) done) refl
+  where
+    go : (t : Bool) → eqb (answerTo w (place list)) done ≡ t → servedWorld w (place list) ≡ if t (servedWorld w (place list)) w
+    go true e = refl
+    go false e =
+        let k = refused-keeps (some (listsOf (w .chip)) (w .lent .slots) (w .lent .ram) list .holds) (eqb-false _ _ e) in
+        rw (k .area-stays, k .places, k .ram)
+
 -- ---- the contracts fix reply and world
 pub record Fixed (w : World) (c : Call) (r : Reply) (v : World) : Type 0 where
   pub reply-is : r ≡ replyTo w c
@@ -121,6 +138,25 @@ fixed {w} (run.step κs ram a r s l) =
       world-is = rw (l .chip, s) (chip-served (answerTo w (step a)) w (stepped (w .lent .ram) (w .chip)));
     }
 fixed {w} (run.start o r l) = record { reply-is = rw (l .answer); world-is = rw (l .chip) }
+fixed {w} (run.area from upto r l) =
+    record { reply-is = rw (l .answer); world-is = rw (l .chip) (chip-served (answerTo w (area from upto)) w (withLists (w .chip) (areaOf from upto))) }
+fixed {w} (run.place κs slots ram list slots' ram' r s m l) =
+    let p = some (listsOf (w .chip)) (w .lent .slots) (w .lent .ram) (now list) in
+    let same = only (rw (s, m) at (l .places-list)) (p .holds) in
+    record {
+      reply-is =
+          ap (λ (x : Placed). record { answer = x .answer; told = placed (x .address) (x .handle) }) (same .result);
+      world-is =
+          ap (λ (x : Chip). roomed w x ram' slots') (l .rest)
+          ∙ ap (λ (x : Placed). roomed w (withLists (w .chip) (x .area)) ram' slots') (same .result)
+          ∙ rw (same .places, same .ram) (place-served w (now list));
+    }
+fixed {w} (run.remove κs slots handle r s l) =
+    record {
+      reply-is = rw (l .answer, s);
+      world-is =
+          rw (l .chip, s) (chip-served (answerTo w (remove handle)) w (withLists (w .chip) (withoutList (listsOf (w .chip)) handle)));
+    }
 fixed {w} (run.lend l) = record { reply-is = refl; world-is = refl }
 
 -- so its answer, and the world after it where it is served and where it is refused
@@ -240,9 +276,38 @@ way w (step a) h =
       made = run.step lifetime (lending (w .lent .ram)) a _ refl (steps-by (stepAnswer (w .lent .ram)) (w .chip) (w .lent .ram) a);
     }
 way w (start o) h = record { reply = _; after = _; made = run.start o _ (answers _ _ (w .chip)) }
+way w (area from upto) h = record { reply = _; after = _; made = run.area from upto _ (answers _ _ (w .chip)) }
+way w (place list) h =
+    let p = some (listsOf (w .chip)) (w .lent .slots) (w .lent .ram) list in
+    record {
+      reply = _;
+      after = _;
+      made =
+          run.place three-lifetimes (lending (w .lent .slots)) (lending (w .lent .ram)) (lending list) (p .places-after) (p .ram-after)
+          (record {
+            chip = withLists (w .chip) (p .result .area);
+            answer = p .result .answer;
+            address = p .result .address;
+            handle = p .result .handle;
+          })
+          refl refl (record { places-list = p .holds; rest = refl });
+    }
+way w (remove handle) h =
+    record { reply = _; after = _; made = run.remove lifetime (lending (w .lent .slots)) handle _ refl (answers _ _ (w .chip)) }
 way w (lend l) h = record { reply = _; after = _; made = run.lend l }
 
 pub possible : (w : World) (c : Call) → AllPlaces w → Makes w c (replyTo w c) (worldAfter w c)
 possible w c h =
     let k = way w c h in
     rw (fixed (k .made) .reply-is, fixed (k .made) .world-is) at (k .made)
+
+-- where placing comes to, by an outcome that meets its promise
+pub placed-world :
+    (w : World) (list : List ℕ) {slots' ram' : List ℕ} {r : Placed} → Places (listsOf (w .chip)) (w .lent .slots) (w .lent .ram) list slots' ram' r →
+    worldAfter w (place list) ≡ roomed w (withLists (w .chip) (r .area)) ram' slots'
+placed-world w list {slots'} {ram'} {r} holds =
+    sym
+    (fixed
+    (run.place three-lifetimes (lending (w .lent .slots)) (lending (w .lent .ram)) (lending list) slots' ram'
+    (record { chip = withLists (w .chip) (r .area); answer = r .answer; address = r .address; handle = r .handle }) refl refl
+    (record { places-list = holds; rest = refl })) .world-is)

@@ -89,7 +89,7 @@ executed-widths Control n c h =
     (flags-widths (intBit n) (looped (loopBit n) c) _ _ (looped-widths c h (loopBit n)))
 executed-widths Nothing n c h = h
 
-turn-widths : (ram : List ℕ) (c : Channel) → ChannelWidths c → ChannelWidths (channelAfter ram c)
+pub turn-widths : (ram : List ℕ) (c : Channel) → ChannelWidths c → ChannelWidths (channelAfter ram c)
 unfolding turnOf
 turn-widths ram c h = go (active (pauseCounted c))
   where

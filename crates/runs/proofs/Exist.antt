@@ -48,7 +48,7 @@ one-hands ed w c (undoes f e) k =
 one-hands ed w c (steps a l) k = rw (l .sorts) (by-answer (λ v. lentOn w ed ≡ lentOn v ed) w c (λ z. rw (l .next)) refl)
 one-hands ed w c (starts o) k = refl
 one-hands ed w c (lends l) k = absurd k
-one-hands ed w c (plain s q l) k = rw s (by-answer (λ v. lentOn w ed ≡ lentOn v ed) w c (λ z. rw (l .lent)) refl)
+one-hands ed w c (plain s q l) k = rw s (by-answer (λ v. lentOn w ed ≡ lentOn v ed) w c (λ z. rw (l .store, l .places ed)) refl)
 
 lent-here : (q : Bool) (w : World) (ed : Editor) → LentTo q w ed (lentOn w ed)
 lent-here true w ed = refl

@@ -5,7 +5,7 @@ use mathlib.Core.List.{List, [], _∷_}
 use Rattle.common.specs.Answers.{done}
 use Rattle.editors.specs.declared.Editor.the-variants.{Song, Picture}
 use Rattle.chip.specs.declared.Chip.{Chip}
-use Rattle.runs.specs.World.{Buffers, World, Loan, lentRam, lentStore, lentPlaces, lentBy}
+use Rattle.runs.specs.World.{Buffers, World, Loan, lentRam, lentStore, lentPlaces, lentSlots, lentBy}
 use Rattle.runs.specs.Call.{Call, lend, Reply, number}
 use Rattle.runs.specs.Run as run
 use Rattle.runs.specs.Run.{Made, Makes, Run, Each}
@@ -24,7 +24,7 @@ abbrev pub lending : World → Loan → Made
 lending w l = record { before = w; asks = lend l; reply = number done; after = with (w .chip) (lentBy l (w .lent)) }
 
 abbrev pub loansOf : Buffers → List Loan
-loansOf b = lentRam (b .ram) ∷ lentStore (b .store) ∷ lentPlaces Song (b .song) ∷ lentPlaces Picture (b .picture) ∷ []
+loansOf b = lentRam (b .ram) ∷ lentStore (b .store) ∷ lentPlaces Song (b .song) ∷ lentPlaces Picture (b .picture) ∷ lentSlots (b .slots) ∷ []
 
 abbrev pub lendingAll : World → List Loan → List Made → List Made
 lendingAll w [] rest = rest
@@ -51,7 +51,8 @@ lends b (on {c} {b = here} {v = v} k rest) =
           run.on (run.lend (lentRam (here .ram)))
           (run.on (run.lend (lentStore (here .store)))
           (run.on (run.lend (lentPlaces Song (here .song)))
-          (run.on (run.lend (lentPlaces Picture (here .picture))) (run.on k (l .run)))));
+          (run.on (run.lend (lentPlaces Picture (here .picture)))
+          (run.on (run.lend (lentSlots (here .slots))) (run.on k (l .run))))));
       chip = l .chip;
     }
 
@@ -61,4 +62,4 @@ pub each-lent :
 unfolding lent
 each-lent P f [] w h = tt
 each-lent P f (e ∷ es) w h =
-    (f _ _, (f _ _, (f _ _, (f _ _, (h .0, each-lent P f es (e .after) (h .1))))))
+    (f _ _, (f _ _, (f _ _, (f _ _, (f _ _, (h .0, each-lent P f es (e .after) (h .1)))))))

@@ -12,3 +12,4 @@ pub mod TakesBack
 pub mod Exist
 pub mod Pairs
 pub mod Free
+pub mod Opens

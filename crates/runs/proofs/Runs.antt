@@ -12,7 +12,7 @@ use Rattle.chip.specs.Editors.{undoOf}
 use Rattle.registers.specs.Address.{registerAt}
 use Rattle.page.specs.UndoRecord.{isKept, entryAt}
 use Rattle.page.specs.Page.{placesAfter}
-use Rattle.runs.specs.World.{World, placesOf, edited, Loan, lentRam, lentStore, lentPlaces, lentBy}
+use Rattle.runs.specs.World.{World, placesOf, edited, Loan, lentRam, lentStore, lentPlaces, lentSlots, lentBy}
 use Rattle.runs.specs.Call.{Call, lend, servedWorld, replyTo, worldAfter}
 use Rattle.runs.specs.Sort.{onLend}
 use Rattle.runs.specs.Run.{Made, Run, ended, on, callsOf, Each, madeOver, worldOver}
@@ -71,6 +71,7 @@ abbrev pub WholeLoan : Loan → Type 0
 WholeLoan (lentRam l) = Unit {0}
 WholeLoan (lentStore l) = Unit {0}
 WholeLoan (lentPlaces e l) = length l ≡ 256
+WholeLoan (lentSlots l) = Unit {0}
 
 abbrev pub Whole : Call → Type 0
 Whole c = onLend WholeLoan (Unit {0}) c
@@ -102,6 +103,7 @@ loan-whole : (w : World) (l : Loan) → WholeLoan l → AllPlaces w → AllPlace
 loan-whole w (lentRam l) h k = λ e. k e
 loan-whole w (lentStore l) h k = λ e. k e
 loan-whole w (lentPlaces e l) h k = edit-whole w e (w .chip) (w .lent .store) l h k
+loan-whole w (lentSlots l) h k = λ e. k e
 
 served-whole : (w : World) (c : Call) → View w c → Whole c → AllPlaces w → AllPlaces (servedWorld w c)
 unfolding placesAfter
@@ -119,7 +121,7 @@ served-whole w c (undoes ed e) h k = edit-whole w ed (w .chip) (w .lent .store) 
 served-whole w c (steps a l) h k = λ e. rw (l .next) (k e)
 served-whole w c (starts o) h k = k
 served-whole w c (lends l) h k = loan-whole w l h k
-served-whole w c (plain s q l) h k = λ e. rw (l .lent) (k e)
+served-whole w c (plain s q l) h k = λ e. rw (l .places e) (k e)
 
 pub whole-kept : (w : World) (c : Call) → Whole c → AllPlaces w → AllPlaces (worldAfter w c)
 whole-kept w c h l = by-answer AllPlaces w c (λ z. served-whole w c (view w c) h l) l

@@ -91,13 +91,13 @@ undo-of w another = others-undid
 
 edit-of : (ed : Editor) {w : World} {c : Call} → View w c → Edit ed w c
 unfolding steppedChip countersStepped
-edit-of ed (feeds b l) = left {c = bc b} (record { none = refl; undo-record = rw (l .editing); snapshots = λ n ss. refl })
+edit-of ed (feeds b l) = left {c = bc b} (record { none = refl; undo-record = l .undo-record ed; snapshots = λ n ss. refl })
 edit-of ed {w} (writes f a b e) = write-of w a b (which ed f)
 edit-of ed {w} (undoes f e) = undo-of w (which ed f)
 edit-of ed (steps {c} a l) = left {c = c} (record { none = rw (l .sorts); undo-record = rw (l .next); snapshots = λ n ss. rw (l .sorts) })
 edit-of ed (starts o) = started o
 edit-of ed (lends l) = left (record { none = refl; undo-record = refl; snapshots = λ n ss. refl })
-edit-of ed (plain {c} s q l) = left {c = c} (record { none = rw s; undo-record = rw (l .editing); snapshots = λ n ss. rw s })
+edit-of ed (plain {c} s q l) = left {c = c} (record { none = rw s; undo-record = l .undo-record ed; snapshots = λ n ss. rw s })
 
 -- ---- the store has bytes
 put-bytes : (store : List ℕ) (x : Register) (v : ℕ) → v < 256 → Bytes store → Bytes (storePut store x v)

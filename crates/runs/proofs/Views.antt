@@ -1,7 +1,7 @@
 -- What a call is to claims over runs. A claim that treats calls alike goes by these cases, and a call that is like another is named here
 -- alone.
 use mathlib.Core.Path.{_≡_, refl, ap}
-use mathlib.Core.List.{[]}
+use mathlib.Core.List.{List, []}
 use Prim.Native.Nat.{ℕ}
 use Rattle.common.specs.Answers.{served}
 use Rattle.editors.specs.declared.Editor.{Editor}
@@ -15,7 +15,8 @@ use Rattle.chip.specs.Ports.{selected, dataWritten, gateWritten}
 use Rattle.chip.specs.Interrupts.{acknowledged}
 use Rattle.chip.specs.State.{withEditing}
 use Rattle.chip.specs.Step.{stepped as steppedChip, idleReport}
-use Rattle.chip.specs.Editors.{editingWith}
+use Rattle.lists.specs.declared.Area.{Area}
+use Rattle.chip.specs.Editors.{undoOf, editingWith, withLists}
 use Rattle.chip.proofs.ChannelLaws.{aside-self, acknowledge-leaves}
 use Rattle.registers.specs.Address.{registerAt}
 use Rattle.registers.specs.Registers.{registerWritten}
@@ -23,17 +24,19 @@ use Rattle.contents.specs.Widths.{Widths}
 use Rattle.page.specs.UndoRecord.{entryAddress, entryContents}
 use Rattle.page.specs.Page.{pageWritten}
 use Rattle.page.specs.Undo.{newest, undone}
-use Rattle.runs.specs.World.{World, placesOf, withChip, Loan}
-use Rattle.runs.specs.Call.{Call, bc, bd, gate, read, write, undo, ack, line, step, start, lend, report, outcome, answerTo, servedWorld}
+use Rattle.runs.specs.World.{World, placesOf, withChip, roomed, Loan}
+use Rattle.runs.specs.Call.{Call, bc, bd, gate, read, write, undo, ack, line, step, start, area, place, remove, lend, report, outcome, answerTo, servedWorld}
 use Rattle.runs.specs.Sort as sort
 use Rattle.runs.specs.Sort.{sortOf}
 use Rattle.runs.proofs.ChipWidths.{beside, acknowledged-widths}
 
--- what stays over a call that is neither an edit, nor a line step, nor a start, nor lends: the buffers; the table and the undo records;
--- IVR; of a channel all but its interrupt; the widths
+-- what stays over a call that is neither an edit, nor a line step, nor a start, nor lends: the pixel store and the places of the undo
+-- records; the table and these records; IVR; of a channel all but its interrupt; the widths
 pub record Leaves (w v : World) : Type 0 where
-  pub lent : v .lent ≡ w .lent
-  pub editing : v .chip .editing ≡ w .chip .editing
+  pub store : v .lent .store ≡ w .lent .store
+  pub places : (e : Editor) → placesOf (v .lent) e ≡ placesOf (w .lent) e
+  pub table : v .chip .editing .table ≡ w .chip .editing .table
+  pub undo-record : (e : Editor) → undoOf (v .chip .editing) e ≡ undoOf (w .chip .editing) e
   pub ivr : v .chip .interrupts .ivr ≡ w .chip .interrupts .ivr
   pub channel : (n : ℕ) → Aside (channelOf (w .chip .sound .channels) n) (channelOf (v .chip .sound .channels) n)
   pub widths : Widths (w .chip) → Widths (v .chip)
@@ -65,25 +68,40 @@ pub data View (w : World) : Call → Type 0 where
   plain :
       {c : Call} → sortOf c ≡ sort.plain → servedWorld w c .chip .lock ≡ w .chip .lock → Leaves w (servedWorld w c) → View w c
 
--- a chip that differs in lock, gate array, 6845, raster flags alone
-ports : (w : World) (d : Chip) → d .sprites ≡ w .chip .sprites → d .palette ≡ w .chip .palette → d .video ≡ w .chip .video →
-    d .sound ≡ w .chip .sound → d .interrupts .ivr ≡ w .chip .interrupts .ivr → d .editing ≡ w .chip .editing →
-    Leaves w (withChip w d)
-ports w d e f g h i j =
+-- a world that differs in lock, gate array, 6845, raster flags, area for lists, RAM and the places of lists alone
+others : (w : World) (d : Chip) (ram slots : List ℕ) → d .sprites ≡ w .chip .sprites → d .palette ≡ w .chip .palette →
+    d .video ≡ w .chip .video → d .sound ≡ w .chip .sound → d .interrupts .ivr ≡ w .chip .interrupts .ivr →
+    d .editing .table ≡ w .chip .editing .table → ((e : Editor) → undoOf (d .editing) e ≡ undoOf (w .chip .editing) e) →
+    Leaves w (roomed w d ram slots)
+others w d ram slots e f g h i j k =
     record {
-      lent = refl;
-      editing = j;
+      store = refl;
+      places = λ ed. refl;
+      table = j;
+      undo-record = k;
       ivr = i;
       channel = λ n. rw h (aside-self (channelOf (w .chip .sound .channels) n));
       widths = beside (w .chip) d e f g (rw h) i;
     }
 
+-- in the first four of these
+ports : (w : World) (d : Chip) → d .sprites ≡ w .chip .sprites → d .palette ≡ w .chip .palette → d .video ≡ w .chip .video →
+    d .sound ≡ w .chip .sound → d .interrupts .ivr ≡ w .chip .interrupts .ivr → d .editing ≡ w .chip .editing →
+    Leaves w (withChip w d)
+ports w d e f g h i j = others w d (w .lent .ram) (w .lent .slots) e f g h i (rw j) (λ ed. rw j)
+
+-- in the last three
+room : (w : World) (lists : Area) (ram slots : List ℕ) → Leaves w (roomed w (withLists (w .chip) lists) ram slots)
+room w lists ram slots = others w (withLists (w .chip) lists) ram slots refl refl refl refl refl refl (λ ed. refl)
+
 acknowledge-all : (w : World) → Leaves w (withChip w (acknowledged (w .chip)))
 unfolding acknowledged
 acknowledge-all w =
     record {
-      lent = refl;
-      editing = refl;
+      store = refl;
+      places = λ ed. refl;
+      table = refl;
+      undo-record = λ ed. refl;
       ivr = refl;
       channel = acknowledge-leaves (w .chip);
       widths = acknowledged-widths (w .chip);
@@ -107,6 +125,9 @@ view w ack = plain refl refl (acknowledge-all w)
 view w (line a n) = steps a (drawn-line w a n)
 view w (step a) = steps a (stepped-line w a)
 view w (start o) = starts o
+view w (area from upto) = plain refl refl (room w _ (w .lent .ram) (w .lent .slots))
+view w (place list) = plain refl refl (room w _ _ _)
+view w (remove handle) = plain refl refl (room w _ (w .lent .ram) (w .lent .slots))
 view w (lend l) = lends l
 
 -- a call steps a line or doesn't

@@ -1,5 +1,6 @@
 -- The calls, with their arguments: what each replies and leaves, in the words of the calls' promises. A law says that every call does so.
-use Prim.Native.Nat.{ℕ, _<_}
+use Prim.Native.Nat.{ℕ, _<_, _^_}
+use mathlib.Core.List.{List}
 use lib.ListN.{length}
 use Rattle.common.specs.Answers.{done, served}
 use Rattle.editors.specs.declared.Editor.{Editor}
@@ -8,20 +9,25 @@ use Rattle.sound.specs.declared.Accesses.{Accesses}
 use Rattle.sound.specs.declared.Report.{Report}
 use Rattle.sound.specs.Line.{soundReport}
 use Rattle.chip.specs.declared.Chip.{Chip}
-use Rattle.chip.specs.Editors.{started}
+use Rattle.lists.specs.Area.{areaOf, areaAnswer}
+use Rattle.lists.specs.Remove.{withoutList}
+use Rattle.lists.proofs.Some.{some}
+use Rattle.chip.specs.Editors.{started, listsOf, withLists}
 use Rattle.chip.specs.Ports.{selected, dataAnswer, dataWritten, gateAnswer, gateWritten}
 use Rattle.chip.specs.Interrupts.{acknowledgeAnswer, acknowledged, vectorOn}
 use Rattle.chip.specs.Step.{stepAnswer, stepped, idleReport}
+use Rattle.placing.specs.Contract.{removalAnswer}
 use Rattle.line.specs.Contract.{lineAnswer}
 use Rattle.registers.specs.Address.{registerAt}
 use Rattle.registers.specs.Registers.{registerRead, storeWritten}
+use Rattle.contents.specs.Widths.{Bytes}
 use Rattle.page.specs.Page.{readAnswer, writeAnswer, pageWritten, placesAfter}
 use Rattle.page.specs.Undo.{undoAnswer, newest, undone, storeUndone}
-use Rattle.runs.specs.World.{World, placesOf, withChip, edited, Loan, lentBy}
+use Rattle.runs.specs.World.{World, placesOf, withChip, edited, roomed, Loan, lentBy}
 
 -- the byte of a port write; the editor, the address and the bus byte of a page read; the editor, the address and the byte of a page
 -- write; the editor of an undo; what the processor does at the 8255 on a line, and the length of the buffer that the line is drawn into;
--- the owners that a start gives. The other buffers are those of the world. `step` is the core's line step, which draws nothing: no host
+-- the owners that a start gives; an area's bounds; a list's bytes; a list's handle. The other buffers are those of the world. `step` is the core's line step, which draws nothing: no host
 -- calls it, but a replay is made of such, so that a chip which it hands out is reached too. `lend` is no call of the chip: the host lends
 -- another buffer from here on
 pub data Call : Type 0 where
@@ -35,14 +41,18 @@ pub data Call : Type 0 where
   line : Accesses → ℕ → Call
   step : Accesses → Call
   start : Owners → Call
+  area : ℕ → ℕ → Call
+  place : List ℕ → Call
+  remove : ℕ → Call
   lend : Loan → Call
 
--- what a caller is told: the answer number, and beside it nothing, a byte, a vector or a line's report
+-- what a caller is told: the answer number, and beside it nothing, a byte, a vector, a line's report, or a list's address and handle
 pub data Told : Type 0 where
   nothing : Told
   byte : ℕ → Told
   vector : ℕ → Told
   report : Report → Told
+  placed : ℕ → ℕ → Told
 
 pub record Reply : Type 0 where
   pub answer : ℕ
@@ -70,6 +80,7 @@ lineBy w number a =
       next = withChip w (stepped (w .lent .ram) (w .chip));
     }
 
+-- placing has one outcome by its promise, which two laws of `lists` say: there is one (`some`), and there are no two (`only`)
 abbrev pub outcome : World → Call → Outcome
 outcome w (bc b) = chipOnly w done (selected (w .chip) b)
 outcome w (bd b) = chipOnly w (dataAnswer (w .chip)) (dataWritten (w .chip) b)
@@ -98,6 +109,16 @@ outcome w ack =
 outcome w (line a n) = lineBy w (lineAnswer (w .chip) (w .lent .ram) (w .lent .store) n) a
 outcome w (step a) = lineBy w (stepAnswer (w .lent .ram)) a
 outcome w (start o) = chipOnly w done (started (w .chip) o)
+outcome w (area from upto) = chipOnly w (areaAnswer (listsOf (w .chip)) from upto) (withLists (w .chip) (areaOf from upto))
+outcome w (place list) =
+    let p = some (listsOf (w .chip)) (w .lent .slots) (w .lent .ram) list in
+    record {
+      answer = p .result .answer;
+      told = placed (p .result .address) (p .result .handle);
+      next = roomed w (withLists (w .chip) (p .result .area)) (p .ram-after) (p .places-after);
+    }
+outcome w (remove handle) =
+    chipOnly w (removalAnswer (w .chip) (w .lent .slots) handle) (withLists (w .chip) (withoutList (listsOf (w .chip)) handle))
 outcome w (lend l) = record { answer = done; told = nothing; next = record { chip = w .chip; lent = lentBy l (w .lent) } }
 
 abbrev pub answerTo : World → Call → ℕ
@@ -113,7 +134,7 @@ replyTo w c = record { answer = answerTo w c; told = outcome w c .told }
 abbrev pub worldAfter : World → Call → World
 worldAfter w c = served (answerTo w c) (servedWorld w c) w
 
--- the arguments as the calls' types bound them: bytes below 256, addresses below 65,536
+-- the arguments as the calls' types bound them: bytes below 256, addresses below 65,536, bounds and handles of 32 bits
 abbrev pub Typed : Call → Type 0
 Typed (bc b) = b < 256
 Typed (bd b) = b < 256
@@ -125,4 +146,7 @@ Typed ack = Unit {0}
 Typed (line a n) = Unit {0}
 Typed (step a) = Unit {0}
 Typed (start o) = Unit {0}
+Typed (area from upto) = (from < 2 ^ 32) × (upto < 2 ^ 32)
+Typed (place list) = Bytes list
+Typed (remove handle) = handle < 2 ^ 32
 Typed (lend l) = Unit {0}

@@ -12,6 +12,7 @@ use Rattle.sound.specs.declared.Accesses.{Accesses}
 use Rattle.chip.specs.declared.Answered.{Answered}
 use Rattle.chip.specs.declared.Acknowledged.{Acknowledged}
 use Rattle.chip.specs.declared.Stepped.{Stepped}
+use Rattle.placing.specs.declared.PlacedList.{PlacedList}
 use Rattle.page.specs.declared.ByteRead.{ByteRead}
 use Rattle.chip.proofs.ports.write_bc.Reads as write-bc
 use Rattle.chip.proofs.ports.write_bd.Reads as write-bd
@@ -20,12 +21,15 @@ use Rattle.chip.proofs.acknowledge.acknowledge.Reads as acknowledge
 use Rattle.chip.proofs.line.step.Reads as chip-step
 use Rattle.line.proofs.line.Reads as line-shown
 use Rattle.chip.proofs.table.start.Reads as table-start
+use Rattle.placing.proofs.area.Reads as placing-area
+use Rattle.placing.proofs.place.Reads as placing-place
+use Rattle.placing.proofs.remove.Reads as placing-remove
 use Rattle.page.proofs.page_read.Reads as page-read
 use Rattle.page.proofs.page_write.Reads as page-write
 use Rattle.page.proofs.undo.Reads as page-undo
-use Rattle.runs.specs.World.{World, placesOf, withChip, edited, Loan, lentBy}
+use Rattle.runs.specs.World.{World, placesOf, withChip, edited, roomed, Loan, lentBy}
 use Rattle.runs.specs.Call as call
-use Rattle.runs.specs.Call.{Call, Reply, byte, vector, report, number, replyTo, worldAfter}
+use Rattle.runs.specs.Call.{Call, Reply, byte, vector, report, placed, number, replyTo, worldAfter}
 
 -- a call made on a world: its reply, and the world that it leaves
 pub data Makes (w : World) : Call → Reply → World → Type 0 where
@@ -71,6 +75,18 @@ pub data Makes (w : World) : Call → Reply → World → Type 0 where
   start :
       (o : Owners) (r : Answered) → table-start.Learnt tt (w .chip, (o, tt)) r (w .chip, (o, tt)) →
       Makes w (call.start o) (number (r .answer)) (withChip w (r .chip))
+  area :
+      (from upto : ℕ) (r : Answered) → placing-area.Learnt tt (w .chip, (from, (upto, tt))) r (w .chip, (from, (upto, tt))) →
+      Makes w (call.area from upto) (number (r .answer)) (withChip w (r .chip))
+  place :
+      (κs : Lfts 3) (slots ram list : RefT (List ℕ)) (slots' ram' : List ℕ) (r : PlacedList) →
+      now slots ≡ w .lent .slots → now ram ≡ w .lent .ram →
+      placing-place.Learnt κs (w .chip, (slots, (ram, (list, tt)))) r (w .chip, (at-last slots slots', (at-last ram ram', (list, tt)))) →
+      Makes w (call.place (now list)) (record { answer = r .answer; told = placed (r .address) (r .handle) }) (roomed w (r .chip) ram' slots')
+  remove :
+      (κs : Lfts 1) (slots : RefT (List ℕ)) (handle : ℕ) (r : Answered) → now slots ≡ w .lent .slots →
+      placing-remove.Learnt κs (w .chip, (slots, (handle, tt))) r (w .chip, (slots, (handle, tt))) →
+      Makes w (call.remove handle) (number (r .answer)) (withChip w (r .chip))
   lend : (l : Loan) → Makes w (call.lend l) (number done) (record { chip = w .chip; lent = lentBy l (w .lent) })
 
 -- one call of a run: the world before it, the call, its reply, the world after it

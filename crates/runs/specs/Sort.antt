@@ -5,7 +5,7 @@ use Rattle.editors.specs.declared.Editor.{Editor}
 use Rattle.editors.specs.declared.Owners.{Owners}
 use Rattle.sound.specs.declared.Accesses.{Accesses}
 use Rattle.runs.specs.World.{Loan}
-use Rattle.runs.specs.Call.{Call, bc, bd, gate, read, write, undo, ack, line, step, start, lend}
+use Rattle.runs.specs.Call.{Call, bc, bd, gate, read, write, undo, ack, line, step, start, area, place, remove, lend}
 
 -- it feeds the lock a byte; writes a byte to an address of the page; takes a write back; steps a line; starts with a table; lends
 -- another buffer; or, plain, does none of these
@@ -29,6 +29,9 @@ sortOf ack = plain
 sortOf (line a n) = stepsLine a
 sortOf (step a) = stepsLine a
 sortOf (start o) = starts o
+sortOf (area from upto) = plain
+sortOf (place list) = plain
+sortOf (remove handle) = plain
 sortOf (lend l) = lends l
 
 -- ---- one thing for the calls of one sort, and another for every other call
@@ -75,3 +78,23 @@ editorIn plain = []
 
 abbrev pub onEdit {ℓ} : {A : Type ℓ} → (Editor → A) → A → Call → A
 onEdit f other c = found f other (editorIn (sortOf c))
+
+-- the bytes of a list that is placed
+abbrev pub listIn : Call → List (List ℕ)
+listIn (bc b) = []
+listIn (bd b) = []
+listIn (gate b) = []
+listIn (read e a bus) = []
+listIn (write e a b) = []
+listIn (undo e) = []
+listIn ack = []
+listIn (line a n) = []
+listIn (step a) = []
+listIn (start o) = []
+listIn (area from upto) = []
+listIn (place list) = list ∷ []
+listIn (remove handle) = []
+listIn (lend l) = []
+
+abbrev pub onPlace {ℓ} : {A : Type ℓ} → (List ℕ → A) → A → Call → A
+onPlace f other c = found f other (listIn c)

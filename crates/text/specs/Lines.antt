@@ -13,6 +13,10 @@ oneLine a = numeral a ++ lineEnd
 abbrev pub twoLine : ℕ → ℕ → List ℕ
 twoLine a b = numeral a ++ spacedNumeral b ++ lineEnd
 
+-- three numbers
+abbrev pub threeLine : ℕ → ℕ → ℕ → List ℕ
+threeLine a b c = numeral a ++ spacedNumeral b ++ spacedNumeral c ++ lineEnd
+
 -- a line's report: the cycles, and what each of the three channels did
 abbrev pub reportText : Report → List ℕ
 reportText r =

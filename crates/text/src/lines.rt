@@ -4,7 +4,7 @@ use sound::Report;
 ghost use Prim.Native.Nat.{_+_, _≤_};
 ghost use lib.ListN.{length};
 ghost use Rattle.text.specs.Text.{Appends};
-ghost use Rattle.text.specs.Lines.{oneLine, twoLine, reportText, stepLine, forecastLine, badLine, shortLine};
+ghost use Rattle.text.specs.Lines.{oneLine, twoLine, threeLine, reportText, stepLine, forecastLine, badLine, shortLine};
 
 // One number.
 pub fn one(out: &mut [u8], at: usize, answer: u8) -> usize
@@ -24,6 +24,18 @@ pub fn two(out: &mut [u8], at: usize, answer: u8, byte: u8) -> usize
 {
     let next = crate::number(out, at, answer as u64);
     let last = crate::spaced(out, next, byte as u64);
+    crate::ended(out, last)
+}
+
+// Three numbers: the answer, and the address and handle of a placed list.
+pub fn three(out: &mut [u8], at: usize, answer: u8, address: u32, handle: u32) -> usize
+    requires { ⌜ at + 63 ≤ length (now out) ⌝ }
+    ensures { λ r. ⌜ Appends (now (out .entry)) at (threeLine answer address handle) (now (out .exit)) r ⌝ }
+    ensures { λ r. ⌜ r ≤ at + 63 ⌝ }
+{
+    let next = crate::number(out, at, answer as u64);
+    let second = crate::spaced(out, next, address as u64);
+    let last = crate::spaced(out, second, handle as u64);
     crate::ended(out, last)
 }
 

@@ -5,6 +5,7 @@ mod forecast;
 mod frame;
 mod install;
 mod list;
+mod map;
 mod mend;
 mod play;
 mod read;
@@ -38,6 +39,7 @@ const COMMANDS: &[Command] = &[
     records::COMMAND,
     play::COMMAND,
     frame::COMMAND,
+    map::COMMAND,
     export::COMMAND,
     install::COMMAND,
 ];

@@ -1,7 +1,7 @@
 //! The line of text for what a record gave, as the proved runner prints it.
 
 use crate::player::Outcome;
-use plus::{kind, Answer, Length, Report};
+use plus::{kind, Answer, Length, Placed, Report};
 use std::fmt;
 
 /// The line for input that ends early.
@@ -12,6 +12,10 @@ impl fmt::Display for Outcome {
         match self {
             Outcome::Answer(answer) => write!(f, "{}", answer.number()),
             Outcome::Byte(answer, byte) => write!(f, "{} {byte}", answer.number()),
+            Outcome::Placed(answer, placed) => {
+                let Placed { address, handle } = placed;
+                write!(f, "{} {address} {handle}", answer.number())
+            }
             Outcome::Line(answer, report) => {
                 write!(f, "{} ", answer.number())?;
                 reported(f, report)

@@ -1,6 +1,7 @@
 //! The command `plus`: what a person asks of the proved core.
 
 mod asm;
+mod canvas;
 mod commands;
 mod failure;
 mod files;
@@ -10,6 +11,7 @@ mod help;
 mod hint;
 mod lines;
 mod man;
+mod map;
 mod numbers;
 mod output;
 mod player;

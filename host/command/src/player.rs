@@ -2,13 +2,20 @@
 
 use crate::scene::Record;
 use plus::take::{Noted, Recorder};
-use plus::{Access, Answer, Editor, Length, Report, Table, EXPORT, LINE, TABLE};
+use plus::{Access, Answer, Editor, Length, Placed, Report, Table};
+use plus::{EXPORT, LINE, RAM, TABLE};
 
-/// How many bytes can wait for a start, of which its table is the first seven.
+/// How many bytes can wait for the calls that take more than a record has: the table of
+/// a start in the first seven, the bounds of an area for lists in the next eight, and
+/// last the high byte of a list's length.
 const WAITING: usize = 16;
 
+/// Where the bounds wait, and the length.
+pub const BOUNDS: usize = TABLE;
+pub const LENGTH: usize = WAITING - 1;
+
 /// A chip that notes every call that is served, what is lent to it, and the bytes
-/// that wait for a start.
+/// that wait.
 pub struct Player {
     pub chip: Recorder,
     pub ram: Vec<u8>,
@@ -22,6 +29,8 @@ pub enum Outcome {
     Answer(Answer),
     /// An answer, and the byte read or the vector.
     Byte(Answer, u8),
+    /// A list that was to be placed.
+    Placed(Answer, Placed),
     /// A line, of which the report alone is told.
     Line(Answer, Report),
     /// A line that is shown, with its report.
@@ -60,6 +69,9 @@ impl Player {
             b'u' => self.undo(Editor::Picture),
             b'T' => self.wait(address, value),
             b'S' => self.start(),
+            b'N' => self.area(),
+            b'K' => self.place(address, value),
+            b'X' => Outcome::Answer(self.chip.remove(value.into())),
             b'E' => self.export(),
             b'A' => self.acknowledge(),
             b'L' => self.passed(value),
@@ -85,7 +97,7 @@ impl Player {
         Outcome::Answer(self.chip.undo(editor, &mut self.store))
     }
 
-    /// A byte that waits for a start; one that has no place there goes nowhere.
+    /// A byte that waits; one that has no place there goes nowhere.
     fn wait(&mut self, address: u16, value: u8) -> Outcome {
         if let Some(place) = self.waiting.get_mut(usize::from(address)) {
             *place = value;
@@ -98,6 +110,27 @@ impl Player {
         let mut bytes = [0; TABLE];
         bytes.copy_from_slice(&self.waiting[..TABLE]);
         Outcome::Answer(self.chip.start(Table::from(bytes)))
+    }
+
+    /// The area for lists given, with the bounds that wait, which stay.
+    fn area(&mut self) -> Outcome {
+        let [from, upto] = [BOUNDS, BOUNDS + 4].map(|place| {
+            let mut bytes = [0; 4];
+            bytes.copy_from_slice(&self.waiting[place..][..4]);
+            u32::from_le_bytes(bytes)
+        });
+        Outcome::Answer(self.chip.area(from, upto))
+    }
+
+    /// A list placed: so many bytes of RAM from an address on, which goes on from its end
+    /// at its start.
+    fn place(&mut self, address: u16, low: u8) -> Outcome {
+        let length = u16::from_le_bytes([low, self.waiting[LENGTH]]);
+        let from = usize::from(address);
+        let bytes = from..from + usize::from(length);
+        let list: Vec<u8> = bytes.map(|at| self.ram[at % RAM]).collect();
+        let (answer, placed) = self.chip.place(&mut self.ram, &list);
+        Outcome::Placed(answer, placed)
     }
 
     fn export(&mut self) -> Outcome {

@@ -12,7 +12,7 @@ pub use pair::{Pair, Step};
 
 use crate::compare::{Buffers, Call, Reply};
 use crate::machine::Machine;
-use plus::Editor;
+use plus::{Editor, List};
 use view::View;
 
 /// What the claim asks of two runs, beside that they differ in one editor's calls.
@@ -24,6 +24,8 @@ pub struct Premises {
     pub own_reads: bool,
     /// A start gives the table that holds.
     pub one_table: bool,
+    /// The host's removals of lists get the same answers in both.
+    pub same_removals: bool,
 }
 
 impl Premises {
@@ -32,6 +34,7 @@ impl Premises {
         ivr_bit_0: true,
         own_reads: true,
         one_table: true,
+        same_removals: true,
     };
 }
 
@@ -40,9 +43,14 @@ impl Premises {
 pub struct Seen {
     /// How often a page write, a page read and an undo of the editor that watches
     /// gave each number.
-    pub writes: [u64; 16],
-    pub reads: [u64; 16],
-    pub undos: [u64; 16],
+    pub writes: [u64; 24],
+    pub reads: [u64; 24],
+    pub undos: [u64; 24],
+    /// How often the host's placings and removals of lists did.
+    pub places: [u64; 24],
+    pub removals: [u64; 24],
+    /// Pairs that ended early, at a removal that was answered differently.
+    pub ended: u64,
     /// Calls of the other one that were served in one of the runs.
     pub others: u64,
     /// Pairs whose runs ended in different states.
@@ -54,7 +62,10 @@ impl Seen {
         let row = match call {
             Call::PageWrite { .. } => &mut self.writes,
             Call::PageRead { .. } => &mut self.reads,
-            _ => &mut self.undos,
+            Call::Undo { .. } => &mut self.undos,
+            Call::Place { .. } => &mut self.places,
+            Call::Remove(_) => &mut self.removals,
+            _ => return,
         };
         row[usize::from(reply.number())] += 1;
     }
@@ -94,9 +105,20 @@ fn maker(call: Call) -> Option<Editor> {
     }
 }
 
+/// The area for lists, those in it, and RAM.
+type Room<'a> = (Option<(u32, u32)>, Vec<List>, &'a [u8]);
+
+impl<M: Machine> Run<M> {
+    fn room(&self) -> Room<'_> {
+        let machine = &self.machine;
+        (machine.bounds(), machine.lists(), &self.lent.ram)
+    }
+}
+
 impl Pair {
     /// Both runs: an answer of the watching editor's that differs, or a part of what
-    /// it owns or of its record, after any call.
+    /// it owns or of its record, after any call. Where a removal has to get the same
+    /// answer and doesn't, the runs end before it.
     pub fn run<M: Machine>(&self, seen: &mut Seen) -> Result<(), String> {
         let mut runs = [Run::<M>::new(self), Run::<M>::new(self)];
         let ivr = runs[0].machine.state().interrupts.ivr;
@@ -105,11 +127,18 @@ impl Pair {
             match step {
                 Step::Both(call) => {
                     let [one, two] = runs.each_mut().map(|run| run.make(*call));
-                    if maker(*call) == Some(self.watching) {
+                    if one != two && self.is_no_pair(*call) {
+                        seen.ended += 1;
+                        break;
+                    }
+                    if maker(*call).is_none_or(|editor| editor == self.watching) {
                         seen.add(*call, one);
-                        if one != two {
-                            return Err(differs(format!("{one:02X?}, and {two:02X?}")));
-                        }
+                    }
+                    if one != two && self.has_to_be_same(*call) {
+                        return Err(differs(format!("{one:02X?}, and {two:02X?}")));
+                    }
+                    if self.changes_room(*call) && runs[0].room() != runs[1].room() {
+                        return Err(differs(String::from("the lists or RAM differ")));
                     }
                 }
                 Step::Apart(calls) => {
@@ -132,6 +161,26 @@ impl Pair {
         let states = runs.map(|run| run.machine.state());
         seen.apart += u64::from(states[0] != states[1]);
         Ok(())
+    }
+
+    /// Whether runs in which a call is answered differently are none of the claim's.
+    fn is_no_pair(&self, call: Call) -> bool {
+        self.premises.same_removals && matches!(call, Call::Remove(_))
+    }
+
+    /// Whether a call of both has to be answered in the same way: the watching editor's,
+    /// and with the premise on removals those on lists.
+    fn has_to_be_same(&self, call: Call) -> bool {
+        maker(call) == Some(self.watching) || self.changes_room(call)
+    }
+
+    /// Whether a call is on lists, and these have to be the same.
+    fn changes_room(&self, call: Call) -> bool {
+        let on_lists = matches!(
+            call,
+            Call::Area { .. } | Call::Place { .. } | Call::Remove(_)
+        );
+        self.premises.same_removals && on_lists
     }
 
     fn view<'a, M: Machine>(&self, run: &'a Run<M>) -> View<'a> {

@@ -8,6 +8,7 @@ mod forecast;
 mod interrupts;
 mod line;
 mod listing;
+mod lists;
 mod lock;
 mod mend;
 mod page;
@@ -20,6 +21,7 @@ mod undo;
 pub use draw::byte_address;
 pub use forecast::{forecast, list, Length};
 pub use listing::{print, read};
+pub use lists::{Area, List};
 pub use mend::{change, mend};
 pub use page::grey;
 pub use replay::{replay, Replay};
@@ -47,6 +49,11 @@ pub mod answer {
     pub const NOT_YOURS: u8 = 15;
     pub const NO_ROOM_FOR_STOP: u8 = 16;
     pub const REPORT_TOO_SMALL: u8 = 17;
+    pub const WRONG_AREA: u8 = 18;
+    pub const ALL_PLACED: u8 = 19;
+    pub const NO_GAP: u8 = 20;
+    pub const NO_HANDLE: u8 = 21;
+    pub const LIST_IN_USE: u8 = 22;
 }
 
 /// Lengths of the lent buffers.
@@ -217,6 +224,8 @@ pub struct Model {
     /// The table, while one holds.
     pub table: Option<Table>,
     pub undo: Undo,
+    /// The area for lists, once it is given.
+    pub lists: Option<Area>,
     /// The last bytes written to BCxx; what decides the lock.
     history: History,
 }
@@ -238,6 +247,7 @@ impl Model {
             },
             table: None,
             undo: Undo::default(),
+            lists: None,
             history: History::new(),
         }
     }

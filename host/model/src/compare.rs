@@ -1,11 +1,12 @@
 //! The comparison: one script run on the proved core and on another machine,
-//! with every answer, the whole state, the records of page writes and every buffer
-//! compared after each call.
+//! with every answer, the whole state, the records of page writes, the placed lists
+//! and every buffer compared after each call.
 
 mod call;
 mod differ;
 pub mod line;
 pub mod listing;
+pub mod lists;
 pub mod mend;
 mod phrases;
 pub mod replay;
@@ -16,7 +17,7 @@ pub use call::{Buffers, Call, Reply};
 pub use script::Script;
 
 use crate::machine::Machine;
-use plus::{kind, Chip, Editing, State, Undo, PLACES};
+use plus::{kind, Answer, Channel, Chip, Editing, List, State, Undo, PLACES};
 use std::fmt;
 
 /// How often each call gave each answer number; `Call::NAMES` names the rows.
@@ -24,7 +25,7 @@ use std::fmt;
 pub struct Tally {
     pub scripts: u64,
     pub calls: u64,
-    pub answers: [[u64; 16]; Call::NAMES.len()],
+    pub answers: [[u64; 24]; Call::NAMES.len()],
     /// How many calls were made while a table held.
     pub held: u64,
     /// How often a record became full, and how often it dropped a write then.
@@ -33,6 +34,25 @@ pub struct Tally {
     /// How many LOADs met the processor off the 8255, on it, and writing a PSG
     /// register there.
     pub loads: [u64; 3],
+    /// How often a list could not be removed for a channel's address, for its mark, and
+    /// for nothing but a word between the two.
+    pub in_use: [u64; 3],
+    /// How many lists were placed below another one.
+    pub between: u64,
+}
+
+/// Why a channel has a list in use: 0 for its address, 1 for its mark, 2 for a word
+/// between.
+fn why_in_use(channels: &[Channel], list: List) -> usize {
+    let has = |address: u16| u32::from(address).wrapping_sub(list.address) < list.length;
+    let enabled = || channels.iter().filter(|channel| channel.enabled);
+    if enabled().any(|channel| has(channel.address)) {
+        return 0;
+    }
+    match enabled().any(|channel| channel.counter > 0 && has(channel.mark)) {
+        true => 1,
+        false => 2,
+    }
 }
 
 impl Tally {
@@ -45,6 +65,22 @@ impl Tally {
             for (access, reported) in accesses.into_iter().zip(report.kinds) {
                 self.loads[access as usize] += u64::from(reported == kind::LOAD);
             }
+        }
+    }
+
+    /// What a call on lists has come to, on a chip after it.
+    fn add_lists(&mut self, call: Call, reply: Reply, chip: &Chip) {
+        match (call, reply) {
+            (Call::Remove(handle), Reply::Answer(Answer::ListInUse)) => {
+                let list = chip.lists().find(|list| list.handle == handle);
+                let list = list.expect("a list that is in use");
+                self.in_use[why_in_use(&chip.sound.channels, list)] += 1;
+            }
+            (Call::Place { .. }, Reply::Placed(Answer::Done, placed)) => {
+                let above = chip.lists().any(|list| list.address > placed.address);
+                self.between += u64::from(above);
+            }
+            _ => {}
         }
     }
 
@@ -161,6 +197,7 @@ fn run<M: Machine>(script: &Script, calls: &[Call], tally: &mut Tally) -> Option
         };
         tally.add(call, reply);
         tally.add_editing(before, two.core.editing);
+        tally.add_lists(call, reply, &two.core);
     }
     None
 }
@@ -232,6 +269,12 @@ impl fmt::Display for Tally {
         writeln!(
             f,
             "LOADs met the processor off the 8255 {off} times, on it {on}, in a PSG write {psg_write}"
-        )
+        )?;
+        let [address, mark, word] = self.in_use;
+        writeln!(
+            f,
+            "a list was in use by an address {address} times, by a mark {mark}, by a word between {word}"
+        )?;
+        writeln!(f, "{} lists were placed below another", self.between)
     }
 }

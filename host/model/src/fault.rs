@@ -78,6 +78,7 @@ mod interrupts;
 mod lent;
 mod line;
 mod listing;
+mod lists;
 mod mend;
 mod page;
 mod ports;
@@ -111,6 +112,17 @@ pub use listing::{
     BadLineFrom0, BeyondCleared, BlankAfter, CarriageReturns, LeadingZero, LfLeftOut, LowerRead,
     LowerWritten, NamedAsWord, PartPrinted, PartRead, Pause0AsWord, RoomBeforeForm, RoomForLongest,
     StopBeforeInt, StrayPassedOver,
+};
+pub use lists::{
+    AddressNotAsked, AddressThoughRefused, BoundsBy16Bits, CopiedThoughRefused, CounterNotAsked,
+    EmptyAreaServed, EmptyListServed, EndAsked, EndOfRamRefused, GapBeforeHandles, GapOneWordShort,
+    GivenTwice, HandleBy6Bits, HandleThoughRefused, HandlesFrom1, HandlesTo62, HighBoundTaken,
+    HighestAddress, LastByteLost, LastWordUnused, LengthBeforeRam, ListsLostByStart,
+    ListsThroughReset, LongerRamTaken, LoopNotAsked, MarkAboveAsked, MarkNotAsked, NextHandle,
+    NoAreaAsNoHandle, OddBoundsTaken, OddLengthPlaced, OneChannelAsked, RefusedAreaStands,
+    RemovedHandleKept, RemovedThoughRefused, ReversedTaken, SecondGap, ShortestGap, StartNotAsked,
+    TooLongAsNoGap, TouchingIsOverlap, UpperBoundUsed, UseBeforeHandle, UsedWhileOff,
+    WordBehindCleared, WordsNotAsked, WordsSwapped,
 };
 pub use mend::{
     AddedStopFirst, AddedStopNotInUse, AddedStopOver0, AddedStopReportedIfOther,

@@ -8,7 +8,9 @@ use crate::chip::{self, Did, Kind, Model};
 use plus::listing::{self, Printed, ReadBack};
 use plus::mend::{self, Change, Mended};
 use plus::take::{self, Opened, Record, RecordRead, Replayed, Written, COUNTS};
-use plus::{kind, Access, Answer, Chip, Editing, Editor, Length, Report, State, Table};
+use plus::{
+    kind, Access, Answer, Chip, Editing, Editor, Length, List, Placed, Report, State, Table,
+};
 use std::marker::PhantomData;
 use std::mem;
 
@@ -55,16 +57,23 @@ macro_rules! calls {
             /// A take played from reset.
             fn replay(ram: &[u8], store: &mut [u8], table: Table, file: &[u8]) -> Replay<Self>;
 
-            /// All of its state but the records of page writes, which are empty here.
+            /// All of its state but the records of page writes, which are empty here, and
+            /// the placed lists, of which there is no area.
             fn state(&self) -> State;
 
             /// Puts it into a state. A lock's stage is 0 to 16, and while no table
-            /// holds its numbers are 0. The records stay.
+            /// holds its numbers are 0. The records and the lists stay.
             fn put(&mut self, state: State);
 
             /// An editor's record, the newest write first: addresses, and what their
             /// registers held before.
             fn record(&self, editor: Editor) -> Vec<(u16, u8)>;
+
+            /// The bounds of the area for lists, if one was given.
+            fn bounds(&self) -> Option<(u32, u32)>;
+
+            /// The placed lists, by rising handles.
+            fn lists(&self) -> Vec<List>;
 
             $($(#[$about])* fn $call(&mut self, $($name: $type),*) -> $answer;)*
 
@@ -81,15 +90,23 @@ macro_rules! calls {
             }
 
             fn state(&self) -> State {
-                without_records(self)
+                without_lent(self)
             }
 
             fn put(&mut self, state: State) {
-                put_beside_records(self, state);
+                put_beside_lent(self, state);
             }
 
             fn record(&self, editor: Editor) -> Vec<(u16, u8)> {
                 Chip::record(self, editor).collect()
+            }
+
+            fn bounds(&self) -> Option<(u32, u32)> {
+                Chip::bounds(self)
+            }
+
+            fn lists(&self) -> Vec<List> {
+                Chip::lists(self).collect()
             }
 
             $(fn $call(&mut self, $($name: $type),*) -> $answer {
@@ -133,15 +150,23 @@ macro_rules! calls {
             }
 
             fn state(&self) -> State {
-                without_records(&self.0)
+                without_lent(&self.0)
             }
 
             fn put(&mut self, state: State) {
-                put_beside_records(&mut self.0, state);
+                put_beside_lent(&mut self.0, state);
             }
 
             fn record(&self, editor: Editor) -> Vec<(u16, u8)> {
                 self.0.record(editor).collect()
+            }
+
+            fn bounds(&self) -> Option<(u32, u32)> {
+                self.0.bounds()
+            }
+
+            fn lists(&self) -> Vec<List> {
+                self.0.lists().collect()
             }
 
             $(fn $call(&mut self, $($name: $type),*) -> $answer {
@@ -180,6 +205,15 @@ calls! {
 
         /// An editor's newest page write taken back.
         fn undo(editor: Editor, store: &mut [u8]) -> Answer;
+
+        /// The area for lists given.
+        fn area(from: u32, upto: u32) -> Answer;
+
+        /// A list placed: the answer, and where it is.
+        fn place(ram: &mut [u8], list: &[u8]) -> (Answer, Placed);
+
+        /// The list of a handle removed.
+        fn remove(handle: u32) -> Answer;
 
         /// The registers exported.
         fn export(out: &mut [u8]) -> Answer;
@@ -234,9 +268,9 @@ calls! {
 /// The core with a fault.
 pub struct Faulty<F>(Chip, PhantomData<F>);
 
-/// The core's state with empty records: where these stand in their rings is no
-/// part of what a machine has to be.
-fn without_records(chip: &Chip) -> State {
+/// The core's state with empty records and no lists: where these stand in their lent
+/// places is no part of what a machine has to be.
+fn without_lent(chip: &Chip) -> State {
     State {
         editing: Editing {
             table: chip.editing.table,
@@ -246,8 +280,8 @@ fn without_records(chip: &Chip) -> State {
     }
 }
 
-/// The core in another state, with the records that it has.
-fn put_beside_records(chip: &mut Chip, state: State) {
+/// The core in another state, with the records and the lists that it has.
+fn put_beside_lent(chip: &mut Chip, state: State) {
     **chip = State {
         editing: Editing {
             table: state.editing.table,
@@ -284,13 +318,25 @@ impl Machine for Model {
     }
 
     fn put(&mut self, state: State) {
-        let undo = mem::take(&mut self.undo);
+        let (undo, lists) = (mem::take(&mut self.undo), self.lists.take());
         *self = Model::from(state);
-        self.undo = undo;
+        (self.undo, self.lists) = (undo, lists);
     }
 
     fn record(&self, editor: Editor) -> Vec<(u16, u8)> {
         self.kept(editor.into()).iter().rev().copied().collect()
+    }
+
+    fn bounds(&self) -> Option<(u32, u32)> {
+        let area = self.lists.as_ref()?;
+        Some((area.from, area.upto))
+    }
+
+    fn lists(&self) -> Vec<List> {
+        let lists = self.lists.iter().flat_map(|area| &area.lists);
+        let mut lists: Vec<List> = lists.map(|&list| list.into()).collect();
+        lists.sort_by_key(|list| list.handle);
+        lists
     }
 
     fn reset(&mut self) {
@@ -324,6 +370,19 @@ impl Machine for Model {
 
     fn undo(&mut self, editor: Editor, store: &mut [u8]) -> Answer {
         answer(Model::undo(self, editor.into(), store))
+    }
+
+    fn area(&mut self, from: u32, upto: u32) -> Answer {
+        answer(Model::area(self, from, upto))
+    }
+
+    fn place(&mut self, ram: &mut [u8], list: &[u8]) -> (Answer, Placed) {
+        let (number, address, handle) = Model::place(self, ram, list);
+        (answer(number), Placed { address, handle })
+    }
+
+    fn remove(&mut self, handle: u32) -> Answer {
+        answer(Model::remove(self, handle))
     }
 
     fn export(&mut self, out: &mut [u8]) -> Answer {

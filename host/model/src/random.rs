@@ -224,6 +224,13 @@ pub fn any_word(random: &mut Random) -> u16 {
     }
 }
 
+/// Such words over bytes of an even length.
+pub fn put_any_words(random: &mut Random, bytes: &mut [u8]) {
+    for place in bytes.chunks_exact_mut(2) {
+        place.copy_from_slice(&any_word(random).to_le_bytes());
+    }
+}
+
 /// Any word, with each form of its line about as often.
 pub fn mixed_word(random: &mut Random) -> u16 {
     let low = random.next() as u16 & 0x0FFF;

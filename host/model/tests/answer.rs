@@ -5,7 +5,7 @@ use plus::Answer;
 use std::fs;
 
 /// The tables of the documents: the numbers, and what they are for.
-const TABLE: [Answer; 18] = [
+const TABLE: [Answer; 23] = [
     Answer::Done,
     Answer::WrongLength,
     Answer::NotMapped,
@@ -24,6 +24,11 @@ const TABLE: [Answer; 18] = [
     Answer::NotYours,
     Answer::NoRoomForStop,
     Answer::ReportTooSmall,
+    Answer::WrongArea,
+    Answer::AllPlaced,
+    Answer::NoGap,
+    Answer::NoHandle,
+    Answer::ListInUse,
 ];
 
 /// The lines of the header from one that ends so, up to one that begins so.
@@ -44,7 +49,7 @@ fn numbers() {
         assert!(answer == number && answer != number + 1);
         assert_eq!(answer.served().is_ok(), number == 0);
     }
-    assert_eq!(Answer::try_from(18), Err(18));
+    assert_eq!(Answer::try_from(23), Err(23));
     assert_eq!(Answer::try_from(255), Err(255));
 }
 

@@ -3,9 +3,9 @@
 use model::by_hand::ByHand;
 use model::compare::replay::{for_a_take, note};
 use model::compare::Script;
-use plus::take::{file_of, kind, NoRecords, Noted, Record, Recorder, Take};
+use plus::take::{file_of, kind, replay, NoRecords, Noted, Record, Recorder, Take};
 use plus::Editor::{self, Picture, Song};
-use plus::{Access, Answer, Chip, State, Table, LINE, RAM, STORE, UNLOCK};
+use plus::{Access, Answer, Area, Chip, State, Table, LINE, RAM, STORE, UNLOCK};
 
 /// The processor is off the 8255: a take says nothing of it, and the state does
 /// not depend on it.
@@ -271,4 +271,50 @@ fn a_reset_starts_anew() {
     recorder.write_bc(9);
     let first = recorder.records().unwrap()[0];
     assert_eq!((first.line, first.kind, first.value), (0, 1, 9));
+}
+
+/// The calls on lists reach the chip, and are noted in neither mode: a take has none of
+/// them, and leads to a chip without an area.
+#[test]
+fn calls_on_lists_are_not_noted() {
+    for noted in [Noted::Changes, Noted::Served] {
+        let (mut recorder, before) = mapped(noted);
+        let (mut ram, mut store) = (vec![0; RAM], vec![0; STORE]);
+        assert_eq!(recorder.area(1, 2), 18);
+        assert_eq!(recorder.area(0x8000, 0x8008), 0);
+        // INT and STOP, and LOADs behind it.
+        let (answer, placed) = recorder.place(&mut ram, &[0x30, 0x40]);
+        assert_eq!((answer.number(), placed.address), (0, 0x8000));
+        assert_eq!(recorder.place(&mut ram, &[1; 6]).0, 0);
+        assert_eq!(recorder.place(&mut ram, &[1; 2]).0, 20);
+        assert_eq!(recorder.remove(5), 21);
+        assert_eq!(recorder.records().unwrap().len(), before);
+        assert_eq!(recorder.bounds(), Some((0x8000, 0x8008)));
+
+        // IVR bit 0 is 0, so that an acknowledge clears the interrupt.
+        let _ = recorder.page_write(Song, &mut store, 0x6805, 0);
+        let _ = recorder.page_write(Song, &mut store, 0x6C01, 0x80);
+        let _ = recorder.page_write(Song, &mut store, 0x6C0F, 1);
+        assert_eq!(recorder.remove(0), 22);
+        assert_eq!(line(&mut recorder, &ram, STORE, LINE), 0);
+        assert_eq!(recorder.remove(0), 0);
+        let _ = recorder.acknowledge();
+        assert_eq!(recorder.remove(1), 0);
+        assert_eq!(recorder.lists().count(), 0);
+        let kinds: Vec<u8> = recorder.records().unwrap()[before..]
+            .iter()
+            .map(|record| record.kind)
+            .collect();
+        assert_eq!(kinds, [4, 4, 4, 5]);
+
+        // On the RAM that the lists are in, the take leads to all else.
+        let file = file_of(b"", recorder.records().unwrap()).unwrap();
+        let played = replay(&ram, &mut store, Table::default(), &file).chip;
+        assert_eq!((played.bounds(), played.lists().count()), (None, 0));
+        let mut expected = **recorder;
+        expected.editing.lists = Area::default();
+        assert_eq!(*played, expected);
+        recorder.reset();
+        assert_eq!(recorder.bounds(), None);
+    }
 }

@@ -23,8 +23,8 @@ pub enum Answer {
     /// The call was served.
     Done = 0,
     /// A lent buffer has the wrong length: page read and write, undo, export, the
-    /// line's call, forecast, playing a take. Or it has fewer words than are in use:
-    /// mending a list.
+    /// line's call, forecast, playing a take, placing a list. Or it has fewer words
+    /// than are in use: mending a list.
     WrongLength = 1,
     /// The address is not of the page, or the page is not mapped: page read and
     /// write.
@@ -65,11 +65,23 @@ pub enum Answer {
     NoRoomForStop = 16,
     /// The report has no room for all changes: mending a list.
     ReportTooSmall = 17,
+    /// The bounds are none that an area has, or one was given before: giving the area.
+    /// Or none was given yet: placing and removing a list. Or the length is 0, odd or
+    /// above the area's: placing one.
+    WrongArea = 18,
+    /// Every handle has a list: placing one.
+    AllPlaced = 19,
+    /// No gap between the lists is long enough: placing one.
+    NoGap = 20,
+    /// No list has the handle: removing one.
+    NoHandle = 21,
+    /// A channel that is enabled has the list in use: removing it.
+    ListInUse = 22,
 }
 
 impl Answer {
     /// All of them, each at its number's place.
-    pub const ALL: [Answer; 18] = [
+    pub const ALL: [Answer; 23] = [
         Answer::Done,
         Answer::WrongLength,
         Answer::NotMapped,
@@ -88,6 +100,11 @@ impl Answer {
         Answer::NotYours,
         Answer::NoRoomForStop,
         Answer::ReportTooSmall,
+        Answer::WrongArea,
+        Answer::AllPlaced,
+        Answer::NoGap,
+        Answer::NoHandle,
+        Answer::ListInUse,
     ];
 
     /// Its number, as the C interface has it.
@@ -149,6 +166,13 @@ impl fmt::Display for Answer {
             Answer::NotYours => "the register is not this editor's",
             Answer::NoRoomForStop => "the list has no STOP, and there is no room for one",
             Answer::ReportTooSmall => "the report has no room for all changes",
+            Answer::WrongArea => {
+                "bounds or length are wrong, or an area is there already or not yet"
+            }
+            Answer::AllPlaced => "every handle has a list",
+            Answer::NoGap => "no gap in the area is long enough",
+            Answer::NoHandle => "no list has that handle",
+            Answer::ListInUse => "a channel has the list in use",
         })
     }
 }

@@ -1,15 +1,18 @@
 //! A chip, and the calls on it.
 
 use crate::ffi;
-use crate::state::{Aligned, Held, State, Undo};
-use crate::{version, Access, Answer, Editor, Table, PLACES};
+use crate::list::{List, Placed};
+use crate::state::{Area, Held, State, Undo};
+use crate::{version, Access, Answer, Editor, Table, LISTS, PLACES, RAM};
 use std::ops::{Deref, DerefMut};
 
-/// A chip, and its two records of page writes. Its fields are those of [`State`].
+/// A chip, its two records of page writes, and where its lists are placed. Its fields
+/// are those of [`State`].
 #[derive(Clone, Debug)]
 pub struct Chip {
-    state: Aligned,
+    state: State,
     places: Places,
+    lists: [u32; LISTS],
 }
 
 /// The places of both editors' records, each at its editor's number.
@@ -35,15 +38,16 @@ impl Chip {
         Chip::of(unsafe { ffi::plus_reset() }, [[0; PLACES]; 2])
     }
 
-    /// A state with the places of its records.
+    /// A state in which no list is placed, with the places of its records.
     pub(crate) fn of(state: State, places: Places) -> Chip {
         Chip {
-            state: Aligned(state),
+            state,
             places,
+            lists: [0; LISTS],
         }
     }
 
-    /// Resets it, which leaves no table and nothing to undo.
+    /// Resets it, which leaves no table, nothing to undo and no area for lists.
     pub fn reset(&mut self) {
         **self = unsafe { ffi::plus_reset() };
     }
@@ -149,6 +153,64 @@ impl Chip {
         })
     }
 
+    /// Gives the area of RAM that lists are placed in, which begins at `from` and ends
+    /// before `upto`: both are even, and the second is above the first and at most
+    /// [`RAM`]. It is given once, and a reset forgets it and its lists; one that was
+    /// refused can be given again. Answers 0 or 18.
+    #[must_use]
+    pub fn area(&mut self, from: u32, upto: u32) -> Answer {
+        self.answered(unsafe { ffi::plus_area(self.state, from, upto) })
+    }
+
+    /// Places a list: its bytes are copied into RAM, to the lowest even address at which
+    /// all of it is within the area and between the other lists. No other byte of RAM
+    /// changes, and no other call writes any. The answer, 0, 1, 18, 19 or 20, tested in
+    /// this order, and where the list is; all 0 where it is refused.
+    #[must_use]
+    pub fn place(&mut self, ram: &mut [u8], list: &[u8]) -> (Answer, Placed) {
+        let placed = unsafe {
+            ffi::plus_place(
+                self.state,
+                &mut self.lists,
+                ram.as_mut_ptr(),
+                ram.len(),
+                list.as_ptr(),
+                list.len(),
+            )
+        };
+        **self = placed.chip;
+        let ffi::Placed {
+            answer,
+            address,
+            handle,
+            ..
+        } = placed;
+        (answer, Placed { address, handle })
+    }
+
+    /// Removes the list of a handle, unless an enabled channel has it in use; its bytes
+    /// stay in RAM. The channel's address lies in it then; or it has passes of a loop
+    /// left, and its mark does, or some word from a mark below its address up to that.
+    /// Answers 0, 18, 21 or 22, tested in this order.
+    #[must_use]
+    pub fn remove(&mut self, handle: u32) -> Answer {
+        self.answered(unsafe { ffi::plus_remove(self.state, &self.lists, handle) })
+    }
+
+    /// The bounds of the area for lists, if one was given.
+    pub fn bounds(&self) -> Option<(u32, u32)> {
+        let Area { from, upto, .. } = self.editing.lists;
+        let [from, upto] = [from, upto].map(|words| 2 * u32::from(words));
+        (from < upto && upto <= RAM as u32).then_some((from, upto))
+    }
+
+    /// The lists that are placed, by rising handles.
+    pub fn lists(&self) -> impl Iterator<Item = List> + '_ {
+        let used = self.editing.lists.used;
+        let taken = (0..LISTS as u32).filter(move |handle| used >> handle & 1 == 1);
+        taken.map(|handle| List::at(handle, self.lists[handle as usize]))
+    }
+
     /// Exports the registers of the page but the pixels and DCSR: of each, by
     /// rising address, three bytes of `out` become its address, low byte first,
     /// and its contents. Answers 0 or 1.
@@ -210,13 +272,13 @@ impl Deref for Chip {
     type Target = State;
 
     fn deref(&self) -> &State {
-        &self.state.0
+        &self.state
     }
 }
 
 impl DerefMut for Chip {
     fn deref_mut(&mut self) -> &mut State {
-        &mut self.state.0
+        &mut self.state
     }
 }
 

@@ -2,10 +2,9 @@
 
 use crate::listing::{Printed, ReadBack};
 use crate::mend::{Change, Mended};
-use crate::state::Aligned;
 use crate::take::{Opened, Record, RecordRead, Written, COUNTS};
 use crate::version::Built;
-use crate::{Access, Answer, Editor, Length, State, Table, PLACES};
+use crate::{Access, Answer, Editor, Length, State, Table, LISTS, PLACES};
 
 #[repr(C)]
 pub(crate) struct Answered {
@@ -27,6 +26,14 @@ pub(crate) struct ByteRead {
 }
 
 #[repr(C)]
+pub(crate) struct Placed {
+    pub chip: State,
+    pub answer: Answer,
+    pub address: u32,
+    pub handle: u32,
+}
+
+#[repr(C)]
 pub(crate) struct Replayed {
     pub chip: State,
     pub answer: Answer,
@@ -44,20 +51,17 @@ pub(crate) struct Stepped {
     pub lows: [u16; 3],
 }
 
-// `Aligned` has the layout of `State` but for its alignment, and goes in its
-// place where the C convention copies it to the stack.
-//
 // An `Answer` has the layout of its number, and every call is proved to answer one
 // of the table: in the version that `version::check` asks for these are the same.
 extern "C" {
     pub(crate) fn plus_built() -> Built;
     pub(crate) fn plus_reset() -> State;
-    pub(crate) fn plus_write_bc(chip: Aligned, byte: u8) -> Answered;
-    pub(crate) fn plus_write_bd(chip: Aligned, byte: u8) -> Answered;
-    pub(crate) fn plus_write_7f(chip: Aligned, byte: u8) -> Answered;
-    pub(crate) fn plus_start(chip: Aligned, table: Table) -> Answered;
+    pub(crate) fn plus_write_bc(chip: State, byte: u8) -> Answered;
+    pub(crate) fn plus_write_bd(chip: State, byte: u8) -> Answered;
+    pub(crate) fn plus_write_7f(chip: State, byte: u8) -> Answered;
+    pub(crate) fn plus_start(chip: State, table: Table) -> Answered;
     pub(crate) fn plus_page_read(
-        chip: Aligned,
+        chip: State,
         editor: Editor,
         store: *const u8,
         store_length: usize,
@@ -65,7 +69,7 @@ extern "C" {
         bus: u8,
     ) -> ByteRead;
     pub(crate) fn plus_page_write(
-        chip: Aligned,
+        chip: State,
         editor: Editor,
         store: *mut u8,
         store_length: usize,
@@ -74,16 +78,26 @@ extern "C" {
         byte: u8,
     ) -> Answered;
     pub(crate) fn plus_undo(
-        chip: Aligned,
+        chip: State,
         editor: Editor,
         store: *mut u8,
         store_length: usize,
         places: &[u32; PLACES],
     ) -> Answered;
-    pub(crate) fn plus_export(chip: Aligned, out: *mut u8, out_length: usize) -> Answer;
-    pub(crate) fn plus_acknowledge(chip: Aligned) -> Acknowledged;
+    pub(crate) fn plus_area(chip: State, from: u32, upto: u32) -> Answered;
+    pub(crate) fn plus_place(
+        chip: State,
+        places: &mut [u32; LISTS],
+        ram: *mut u8,
+        ram_length: usize,
+        list: *const u8,
+        list_length: usize,
+    ) -> Placed;
+    pub(crate) fn plus_remove(chip: State, places: &[u32; LISTS], handle: u32) -> Answered;
+    pub(crate) fn plus_export(chip: State, out: *mut u8, out_length: usize) -> Answer;
+    pub(crate) fn plus_acknowledge(chip: State) -> Acknowledged;
     pub(crate) fn plus_line(
-        chip: Aligned,
+        chip: State,
         ram: *const u8,
         ram_length: usize,
         store: *const u8,

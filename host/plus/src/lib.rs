@@ -3,13 +3,13 @@
 //! Linux.
 //!
 //! A [`Chip`] is the whole state of one chip, held by value, with the records of
-//! page writes that can be undone; the library keeps nothing between calls. A
-//! host lends each call the buffers it needs: RAM of [`RAM`] bytes, the sprite
-//! pixel store of [`STORE`] bytes, a line of [`LINE`] bytes to draw into, and
-//! [`EXPORT`] bytes for an export. Every call gives an [`Answer`]. With any other
-//! than [`Answer::Done`] the call was refused: chip and buffers are as they were,
-//! and all else in the answer is 0, but for the number of a bad line or a bad
-//! record.
+//! page writes that can be undone and the places of its lists; the library keeps
+//! nothing between calls. A host lends each call the buffers it needs: RAM of [`RAM`]
+//! bytes, which only [`Chip::place`] writes, the sprite pixel store of [`STORE`]
+//! bytes, a line of [`LINE`] bytes to draw into, and [`EXPORT`] bytes for an export.
+//! Every call gives an [`Answer`]. With any other than [`Answer::Done`] the call was
+//! refused: chip and buffers are as they were, and all else in the answer is 0, but
+//! for the number of a bad line or a bad record.
 //!
 //! A line is one call, [`Chip::line`], which draws it and steps on to the next.
 //!
@@ -18,6 +18,10 @@
 //! of its own. A [`Table`], which the host gives by [`Chip::start`], says which of
 //! them may write what; while none is given both may write everything, and a host
 //! with one editor can name either, always the same.
+//!
+//! Up to [`LISTS`] sound lists are kept in an area of RAM: [`Chip::area`] gives it,
+//! [`Chip::place`] finds the room for a list and puts it there, and [`Chip::remove`]
+//! frees the room of one that no channel has in use.
 //!
 //! [`listing`] prints a sound list as text and reads such a text back. [`mend`]
 //! makes an old sound list a good one. [`take`] writes, opens and plays takes, and
@@ -152,6 +156,52 @@
 //! # Ok::<(), Answer>(())
 //! ```
 //!
+//! Lists dropped and replaced while one of them plays. It can't be removed until its
+//! channel is at its STOP:
+//!
+//! ```
+//! use plus::{Access, Answer, Chip, Editor, List, LINE, RAM, STORE, UNLOCK};
+//!
+//! let (mut ram, mut store, mut line) = (vec![0; RAM], vec![0; STORE], [0; LINE]);
+//! let mut chip = Chip::new();
+//! for byte in UNLOCK {
+//!     chip.write_bc(byte);
+//! }
+//! chip.write_7f(0xB8).served()?;
+//! chip.area(0x8000, 0x8010).served()?; // room for eight words
+//!
+//! // LOAD 7 38h, PAUSE 2, STOP; and a STOP alone.
+//! let song = [0x38, 0x07, 0x02, 0x10, 0x20, 0x40];
+//! let (answer, first) = chip.place(&mut ram, &song);
+//! answer.served()?;
+//! assert_eq!((first.address, first.handle), (0x8000, 0));
+//! assert_eq!(ram[0x8000..0x8006], song);
+//! let (answer, second) = chip.place(&mut ram, &[0x20, 0x40]);
+//! answer.served()?;
+//! assert_eq!((second.address, second.handle), (0x8006, 1));
+//!
+//! // The first one on channel 0.
+//! for (address, byte) in [(0x6C00, 0x00), (0x6C01, 0x80), (0x6C0F, 1)] {
+//!     chip.page_write(Editor::Song, &mut store, address, byte).served()?;
+//! }
+//! for _ in 0..4 {
+//!     assert_eq!(chip.remove(first.handle), Answer::ListInUse);
+//!     let (answer, _report) = chip.line(&ram, &store, &mut line, [Access::Off; 3]);
+//!     answer.served()?;
+//! }
+//! chip.remove(first.handle).served()?;
+//! assert_eq!(chip.remove(first.handle), Answer::NoHandle);
+//!
+//! // Its room is too short for the next one, and its handle is free again.
+//! let (answer, third) = chip.place(&mut ram, &[0x40; 8]);
+//! answer.served()?;
+//! assert_eq!((third.address, third.handle), (0x8008, 0));
+//! assert_eq!(chip.bounds(), Some((0x8000, 0x8010)));
+//! let list = |handle, address, length| List { handle, address, length };
+//! assert!(chip.lists().eq([list(0, 0x8008, 8), list(1, 0x8006, 2)]));
+//! # Ok::<(), Answer>(())
+//! ```
+//!
 //! A slider sends an event for every step of a gesture, and each write is kept by
 //! itself: a long gesture would fill the record, and take as many undos to take
 //! back. To keep one entry a gesture, take back the last event's write before each
@@ -191,6 +241,7 @@ mod editor;
 mod ffi;
 mod forecast;
 pub mod kind;
+mod list;
 pub mod listing;
 pub mod mend;
 mod palette;
@@ -203,9 +254,10 @@ pub use answer::Answer;
 pub use chip::{Chip, Report};
 pub use editor::{Editor, Table, TABLE};
 pub use forecast::{forecast, Length};
+pub use list::{List, Placed};
 pub use palette::grey;
 pub use state::{
-    Channel, Counters, Crtc, Editing, Gate, Held, Interrupts, Lock, Registers, Sound, Sprite,
+    Area, Channel, Counters, Crtc, Editing, Gate, Held, Interrupts, Lock, Registers, Sound, Sprite,
     State, Undo, Video,
 };
 pub use version::{built, Built, VERSION};
@@ -224,6 +276,9 @@ pub const EXPORT: usize = 477;
 
 /// How many page writes an editor can undo.
 pub const PLACES: usize = 256;
+
+/// How many lists can be placed at a time.
+pub const LISTS: usize = 64;
 
 /// Bytes that unlock a chip, written to BCxx one after the other. Any byte but
 /// zero does for the first, and any at all for the last.

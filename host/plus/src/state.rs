@@ -172,6 +172,18 @@ pub struct Held {
     pub palette: u32,
 }
 
+/// The area that lists are placed in, and which handles have one.
+#[repr(C)]
+#[derive(Clone, Copy, Debug, Default, PartialEq, Eq)]
+pub struct Area {
+    /// Bit h is set if handle h has a list.
+    pub used: u64,
+    /// How many words of RAM lie below the lower bound. With no area both are 0.
+    pub from: u16,
+    /// How many lie below the higher bound.
+    pub upto: u16,
+}
+
 /// What is kept for those who edit.
 #[repr(C)]
 #[derive(Clone, Copy, Debug, Default, PartialEq, Eq)]
@@ -182,6 +194,8 @@ pub struct Editing {
     pub song: Undo,
     /// The picture editor's.
     pub picture: Undo,
+    /// The area for lists.
+    pub lists: Area,
 }
 
 /// The whole state.
@@ -204,13 +218,7 @@ pub struct State {
     pub palette: [u8; 64],
     /// Channels and PSG.
     pub sound: Sound,
-    /// The table of the editors, and their records of page writes but for the
-    /// places.
+    /// The table of the editors, their records of page writes and the placed lists,
+    /// both but for the places.
     pub editing: Editing,
 }
-
-/// A state that stands at a whole word, so that it is copied by words where the
-/// C convention passes it on the stack.
-#[repr(C, align(8))]
-#[derive(Clone, Copy, Debug)]
-pub(crate) struct Aligned(pub State);

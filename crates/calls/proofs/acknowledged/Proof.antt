@@ -17,11 +17,11 @@ same-length : tie.Need-same-length
 same-length c = search needs
 
 returns : tie.Need-returns
-returns c ram store song picture =
+returns c ram store song picture slots =
     let told = c .before .before .before .before .before .acknowledge .ensures in
     let m = c .before .before .before .before .before .before .before .args .m in
     record {
-      state = ap (waitingBeside (m .waiting)) (acknowledging (worldOf (m .chip) ram store song picture) told);
+      state = ap (waitingBeside (m .waiting)) (acknowledging (worldOf (m .chip) ram store song picture slots) told);
       puts = simp (told .answer, told .vector) at (c .before .before .two .ensures .0);
       bound = search needs;
     }

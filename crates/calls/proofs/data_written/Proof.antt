@@ -15,8 +15,8 @@ same-length : tie.Need-same-length
 same-length c = search needs
 
 returns : tie.Need-returns
-returns c ram store song picture =
-    answers (c .before .before .answered .ensures) (c .before .before .before .before .write-bd .ensures) ram store song picture refl refl
+returns c ram store song picture slots =
+    answers (c .before .before .answered .ensures) (c .before .before .before .before .write-bd .ensures) ram store song picture slots refl refl
 
 pub data-written-spec : {M : Type 1} → statement M
 data-written-spec = tie.close (tie.spec write-bd-requires answered-requires same-length returns)

@@ -19,7 +19,7 @@ same-length c = search needs
 
 returns : tie.Need-returns
 unfolding foretoldLine
-returns c store song picture =
+returns c store song picture slots =
     let told = c .before .before .before .before .before .forecast .ensures in
     record {
       state = refl;

@@ -15,9 +15,9 @@ same-length : tie.Need-same-length
 same-length c = search needs
 
 returns : tie.Need-returns
-returns c ram store song picture =
+returns c ram store song picture slots =
     let bytes = c .before .before .before .before .waiting-with .ensures in
-    tells ram store song picture (c .before .before .done .ensures) (rw bytes) refl
+    tells ram store song picture slots (c .before .before .done .ensures) (rw bytes) refl
 
 pub kept-waiting-spec : {M : Type 1} → statement M
 kept-waiting-spec = tie.close (tie.spec waiting-with-requires done-requires same-length returns)

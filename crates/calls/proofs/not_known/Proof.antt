@@ -11,7 +11,7 @@ same-length : tie.Need-same-length
 same-length c = search needs
 
 returns : tie.Need-returns
-returns c ram store song picture = record { state = refl; puts = c .before .before .bad .ensures .0; bound = search needs }
+returns c ram store song picture slots = record { state = refl; puts = c .before .before .bad .ensures .0; bound = search needs }
 
 pub not-known-spec : {M : Type 1} → statement M
 not-known-spec = tie.close (tie.spec bad-requires same-length returns)

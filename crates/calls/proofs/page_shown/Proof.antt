@@ -17,13 +17,13 @@ same-length : tie.Need-same-length
 same-length c = search needs
 
 returns : tie.Need-returns
-returns c ram song picture =
+returns c ram song picture slots =
     let told = c .before .before .before .before .page-read .ensures in
     let start = c .before .before .before .before .before .before .before .args in
     record {
       state =
           ap (waitingBeside (start .m .waiting))
-          (reading (worldOf (start .m .chip) ram (start .store .now) song picture) (start .editor) (start .address) (start .bus));
+          (reading (worldOf (start .m .chip) ram (start .store .now) song picture slots) (start .editor) (start .address) (start .bus));
       puts = simp (told .answer, told .byte) at (c .before .before .two .ensures .0);
       bound = search needs;
     }

@@ -24,13 +24,13 @@ same-length : tie.Need-same-length
 same-length c = search needs
 
 returns : tie.Need-returns
-returns c song picture =
+returns c song picture slots =
     let called = c .before .before .before .before .before .before .before .before in
     let told = rw (called .before .accesses-in .ensures) at (called .line2 .ensures) in
     let m = c .before .before .before .before .before .before .before .before .before .before .before .before .before .before .args .m in
     record {
-      state = ap (waitingBeside (m .waiting)) (shown-world told (search needs) song picture);
-      puts = rw (painted-line told (search needs) song picture) at (c .before .before .painted .ensures .0);
+      state = ap (waitingBeside (m .waiting)) (shown-world told (search needs) song picture slots);
+      puts = rw (painted-line told (search needs) song picture slots) at (c .before .before .painted .ensures .0);
       bound = search needs;
     }
 

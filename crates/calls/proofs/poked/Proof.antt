@@ -18,7 +18,7 @@ same-length-2 : tie.Need-same-length-2
 same-length-2 c = search needs
 
 returns : tie.Need-returns
-returns c store song picture = tells _ store song picture (c .before .before .done .ensures) refl refl
+returns c store song picture slots = tells _ store song picture slots (c .before .before .done .ensures) refl refl
 
 pub poked-spec : {M : Type 1} → statement M
 poked-spec = tie.close (tie.spec slice-write-ram done-requires same-length same-length-2 returns)

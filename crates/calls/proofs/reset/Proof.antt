@@ -15,9 +15,9 @@ same-length : tie.Need-same-length
 same-length c = search needs
 
 returns : tie.Need-returns
-returns c ram store song picture =
+returns c ram store song picture slots =
     let fresh = c .before .before .before .before .before .reset .ensures .chip in
-    tells ram store song picture (c .before .before .done .ensures) (rw fresh) refl
+    tells ram store song picture slots (c .before .before .done .ensures) (rw fresh) refl
 
 pub reset-spec : {M : Type 1} → statement M
 reset-spec = tie.close (tie.spec reset-requires done-requires same-length returns)

@@ -15,8 +15,8 @@ same-length : tie.Need-same-length
 same-length c = search needs
 
 returns : tie.Need-returns
-returns c ram store song picture =
-    answers (c .before .before .answered .ensures) (c .before .before .before .before .write-bc .ensures .call) ram store song picture refl refl
+returns c ram store song picture slots =
+    answers (c .before .before .answered .ensures) (c .before .before .before .before .write-bc .ensures .call) ram store song picture slots refl refl
 
 pub selected-spec : {M : Type 1} → statement M
 selected-spec = tie.close (tie.spec write-bc-requires answered-requires same-length returns)

@@ -21,9 +21,9 @@ same-length : tie.Need-same-length
 same-length c = search needs
 
 returns : tie.Need-returns
-returns c ram store song picture =
+returns c ram store song picture slots =
     let given = c .before .before .before .before .before .owners-in .ensures in
-    answers (c .before .before .answered .ensures) (rw given at (c .before .before .before .before .start .ensures)) ram store song picture refl refl
+    answers (c .before .before .answered .ensures) (rw given at (c .before .before .before .before .start .ensures)) ram store song picture slots refl refl
 
 pub started-spec : {M : Type 1} → statement M
 started-spec =

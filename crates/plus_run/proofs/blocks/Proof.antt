@@ -7,12 +7,12 @@ use Rattle.plus_run.proofs.blocks.Statement.{statement}
 use Rattle.plus_run.proofs.blocks.Tie as tie
 
 abbrev Inv-loop : tie.InvT-loop
-Inv-loop ram₀ store₀ song₀ picture₀ out₀ block₀ progress₀ turns₀ ram store song picture out block progress turns =
+Inv-loop ram₀ store₀ song₀ picture₀ slots₀ out₀ block₀ progress₀ turns₀ ram store song picture slots out block progress turns =
     (Ready (progress .machine) ram out) × (length ram ≡ length ram₀) × (length store ≡ length store₀) × (length out ≡ length out₀) ×
     (length block ≡ length block₀)
 
 abbrev μ-loop : tie.MeasureT-loop
-μ-loop ram₀ store₀ song₀ picture₀ out₀ block₀ progress₀ turns₀ ram store song picture out block progress turns = turns
+μ-loop ram₀ store₀ song₀ picture₀ slots₀ out₀ block₀ progress₀ turns₀ ram store song picture slots out block progress turns = turns
 
 loop-holds : tie.Need-loop-holds Inv-loop μ-loop
 loop-holds c = search needs

@@ -11,12 +11,12 @@ use Rattle.plus_run.proofs.orders.Statement.{statement}
 use Rattle.plus_run.proofs.orders.Tie as tie
 
 abbrev Inv-loop : tie.InvT-loop
-Inv-loop ram₀ store₀ song₀ picture₀ out₀ block whole machine₀ k₀ ram store song picture out machine k =
+Inv-loop ram₀ store₀ song₀ picture₀ slots₀ out₀ block whole machine₀ k₀ ram store song picture slots out machine k =
     (Ready machine ram out) × (length ram ≡ length ram₀) × (length store ≡ length store₀) × (length out ≡ length out₀) × (k ≤ whole) ×
-    (runningOf machine ram store song picture ≡ ordersServed (runningOf machine₀ ram₀ store₀ song₀ picture₀) block k)
+    (runningOf machine ram store song picture slots ≡ ordersServed (runningOf machine₀ ram₀ store₀ song₀ picture₀ slots₀) block k)
 
 abbrev μ-loop : tie.MeasureT-loop
-μ-loop ram₀ store₀ song₀ picture₀ out₀ block whole machine₀ k₀ ram store song picture out machine k = whole - k
+μ-loop ram₀ store₀ song₀ picture₀ slots₀ out₀ block whole machine₀ k₀ ram store song picture slots out machine k = whole - k
 
 loop-holds : tie.Need-loop-holds Inv-loop μ-loop
 unfolding ordersServed
@@ -29,14 +29,14 @@ turn-requires : tie.Need-turn-requires Inv-loop μ-loop
 turn-requires c κs = search needs
 
 add-k : tie.Need-add-k Inv-loop μ-loop
-add-k c = omega (arith, c .before .before .before .before .before .before .before .before .before .before .before .before .before .before .before .before .before .before .good .1 .1 .1 .1 .1 .1 .0 .0)
+add-k c = omega (arith, c .before .before .before .before .before .before .before .before .before .before .before .before .before .before .before .before .before .before .before .good .1 .1 .1 .1 .1 .1 .1 .0 .0)
 
 loop-less : tie.Need-loop-less Inv-loop μ-loop
 loop-less c = search needs
 
 loop-again : tie.Need-loop-again Inv-loop μ-loop
 loop-again c =
-    let l = c .before .before .before .before .before .before .before .before .before .before .before .before .before .loop in (
+    let l = c .before .before .before .before .before .before .before .before .before .before .before .before .before .before .loop in (
       search needs,
       search needs,
       search needs,

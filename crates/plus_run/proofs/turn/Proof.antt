@@ -27,11 +27,11 @@ returns : tie.Need-returns
 returns c =
     let s = c .before .before .before .before .before .before .serve in
     let r = c .before .before .before .before .before .before .before .order-at .ensures in
-    let ready = c .before .before .before .before .before .before .before .before .before .before .before .before .before .with-room in
-    let start = c .before .before .before .before .before .before .before .before .before .before .before .before .before .before .before .before .before .before .before in (
+    let ready = c .before .before .before .before .before .before .before .before .before .before .before .before .before .before .with-room in
+    let start = c .before .before .before .before .before .before .before .before .before .before .before .before .before .before .before .before .before .before .before .before in (
       record {
-        within = omega (arith, s .ensures .does .bound, ready .ensures .room, s .kept .1 .1 .1 .1 .1 .0);
-        buffer = omega (arith, s .kept .1 .1 .1 .1 .1 .0, start .pre .0 .buffer);
+        within = omega (arith, s .ensures .does .bound, ready .ensures .room, s .kept .1 .1 .1 .1 .1 .1 .0);
+        buffer = omega (arith, s .kept .1 .1 .1 .1 .1 .1 .0, start .pre .0 .buffer);
         memory = omega (arith, s .kept .1 .0, start .pre .0 .memory);
       },
       served-order (ready .ensures) r (s .ensures),

@@ -1,6 +1,6 @@
 -- `replay::called`: each kind's call does what it is asked.
 use borrow.Author.Needs.{needs}
-use mathlib.Core.List.{List}
+use mathlib.Core.List.{List, []}
 use Prim.Native.Nat.{ℕ}
 use Rattle.editors.specs.declared.Editor.the-variants.{Song, Picture}
 use Rattle.runs.specs.World.{World, worldOf}
@@ -12,7 +12,7 @@ use Rattle.replay.proofs.called.Tie as tie
 
 -- the world before the call, with any RAM
 abbrev given : tie.Start → List ℕ → World
-given s ram = worldOf (s .args .chip) ram (s .args .store .now) (s .args .song .now) (s .args .picture .now)
+given s ram = worldOf (s .args .chip) ram (s .args .store .now) (s .args .song .now) (s .args .picture .now) []
 
 write-bc-requires : tie.Need-write-bc-requires
 write-bc-requires c κs = search needs

@@ -6,10 +6,11 @@ use crate::files::{Files, Place};
 use crate::given::Given;
 use crate::lines;
 use crate::output::Output;
-use crate::player::Outcome;
-use crate::scene::{self, Scene, Short};
+use crate::player::{Outcome, Player};
+use crate::scene::{self, Record, Scene, Short};
 use crate::Done;
 use plus::take::file_of;
+use plus::Answer;
 use std::path::Path;
 
 pub const COMMAND: Command = Command { name: "run", run };
@@ -89,10 +90,7 @@ fn save(scene: &Scene, place: &Place, table: Option<&Place>, out: &Path) -> Done
         path: scene.path.clone(),
         why,
     };
-    if let Some(why) = takeless(scene) {
-        return Err(no_take(why));
-    }
-    let Ok(player) = scene.played() else {
+    let Some(player) = recorded(scene).map_err(no_take)? else {
         return Ok(());
     };
     let records = player
@@ -106,14 +104,30 @@ fn save(scene: &Scene, place: &Place, table: Option<&Place>, out: &Path) -> Done
     place.write(take)
 }
 
-/// Why no take can hold what a scene does, if one of its records is the reason.
-fn takeless(scene: &Scene) -> Option<String> {
-    let (_, records) = scene.open().ok()?;
-    (1..)
-        .zip(records.flatten())
-        .find_map(|(number, record)| match record.op {
-            b'M' => Some(format!("record number {number} changes RAM")),
-            b'Z' => Some(format!("record number {number} resets")),
-            _ => None,
-        })
+/// A scene played for its take, if it does not end early. Or the record for which it
+/// has none.
+fn recorded(scene: &Scene) -> Result<Option<Player>, String> {
+    let Ok((mut player, records)) = scene.open() else {
+        return Ok(None);
+    };
+    for (number, record) in (1..).zip(records) {
+        let Ok(record) = record else {
+            return Ok(None);
+        };
+        let outcome = player.play(record);
+        if let Some(why) = takeless(record, &outcome) {
+            return Err(format!("record number {number} {why}"));
+        }
+    }
+    Ok(Some(player))
+}
+
+/// Why no take can hold what a record has done, if it is so.
+fn takeless(record: Record, outcome: &Outcome) -> Option<&'static str> {
+    match (record.op, outcome) {
+        (b'M', _) => Some("changes RAM"),
+        (b'Z', _) => Some("resets"),
+        (_, Outcome::Placed(Answer::Done, _)) => Some("places a list in RAM"),
+        _ => None,
+    }
 }

@@ -4,6 +4,7 @@ use super::words::{Line, Word, WORDS};
 use super::{Record, RECORD};
 use crate::failure::Failure;
 use crate::files::Files;
+use crate::player::{BOUNDS, LENGTH};
 use crate::sound;
 use plus::{Table, RAM, STORE};
 use std::fs;
@@ -204,12 +205,30 @@ impl Making<'_, '_> {
         values.try_for_each(|&value| self.call(op, 0, value.into()))
     }
 
+    /// Bytes put where they wait, from a place on.
+    fn wait(&mut self, place: usize, bytes: &[u8]) -> Result<(), Failure> {
+        let mut bytes = (place as u32..).zip(bytes);
+        bytes.try_for_each(|(place, &byte)| self.call(b'T', place, byte.into()))
+    }
+
     /// A start, with the bytes of its table put where they wait for it.
     pub fn table(&mut self, table: Table) -> Result<(), Failure> {
-        for (place, byte) in (0..).zip(table.bytes()) {
-            self.call(b'T', place, byte.into())?;
-        }
+        self.wait(0, &table.bytes())?;
         self.call(b'S', 0, 0)
+    }
+
+    /// The area for lists, with its bounds put where they wait for it.
+    pub fn area(&mut self, from: u32, upto: u32) -> Result<(), Failure> {
+        self.wait(BOUNDS, &from.to_le_bytes())?;
+        self.wait(BOUNDS + 4, &upto.to_le_bytes())?;
+        self.call(b'N', 0, 0)
+    }
+
+    /// A list placed, with the high byte of its length put where it waits.
+    pub fn place(&mut self, address: u32, length: u32) -> Result<(), Failure> {
+        let [low, high, ..] = length.to_le_bytes();
+        self.wait(LENGTH, &[high])?;
+        self.call(b'K', address, low.into())
     }
 
     pub fn lines(&mut self, line: &Line) -> Result<(), Failure> {

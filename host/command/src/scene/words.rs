@@ -49,6 +49,15 @@ pub const WORDS: &[Word] = &[
             channels: line.number(2) as u8,
         })
     }),
+    word("area", &[FROM, UPTO], |making, line| {
+        making.area(line.number(0), line.number(1))
+    }),
+    word("place", &[ADDRESS, LENGTH], |making, line| {
+        making.place(line.number(0), line.number(1))
+    }),
+    word("remove", &[HANDLE], |making, line| {
+        making.call(b'X', 0, line.number(0))
+    }),
     word("export", &[], |making, _| making.call(b'E', 0, 0)),
     word("acknowledge", &[], |making, _| making.call(b'A', 0, 0)),
     word("draw", &[ACCESSES], |making, line| {
@@ -82,6 +91,21 @@ const SPRITES: Argument = Argument {
 };
 const CHANNELS: Argument = argument("CHANNELS", "a number from 0 to 7", |digits| {
     decimal(digits, 7)
+});
+/// The bounds of the area for lists.
+const FROM: Argument = Argument {
+    name: "FROM",
+    ..PALETTE
+};
+const UPTO: Argument = Argument {
+    name: "UPTO",
+    ..PALETTE
+};
+const LENGTH: Argument = argument("LENGTH", "a number from 0 to 65535", |digits| {
+    decimal(digits, 65_535)
+});
+const HANDLE: Argument = argument("HANDLE", "a number from 0 to 255", |digits| {
+    decimal(digits, 255)
 });
 const REGISTER: Argument = argument("REGISTER", "a number from 0 to 31", |digits| {
     decimal(digits, 31)

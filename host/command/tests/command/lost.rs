@@ -33,6 +33,7 @@ fn writers(folder: &Folder) -> Vec<Writer> {
     let records = folder.file("records.txt", b"0 1 0 9\n0 2 0 7\n");
     let comment = folder.file("comment", b"rows of 8 lines");
     let scene = folder.file("a.scene", &Scene::new().record('B', 0, 9).bytes());
+    let placed = folder.file("b.txt", b"area 8000 9000\nplace 0 6\n");
     let (ram, store) = (
         folder.file("ram", &[0; RAM]),
         folder.file("store", &[0; STORE]),
@@ -59,6 +60,7 @@ fn writers(folder: &Folder) -> Vec<Writer> {
         writer(&["take", &records], &[&comment], ""),
         writer(&["export", &scene], &[], "159 registers\n"),
         writer(&["frame", &scene], &[], "640 x 1\n"),
+        writer(&["map", &placed], &[], "area 08000 09000\n0 8000 6\n"),
         writer(&["run", &scene, "--take"], &[], "0\n"),
         writer(&["play", &ram, &store, &take], &[], "lines 0\n"),
     ]

@@ -176,6 +176,105 @@ fn each_letter_of_the_editors() {
     assert_eq!(ran.status, Some(1));
 }
 
+/// The bounds 8000h and 8012h, low byte first.
+const BOUNDS: [u8; 8] = [0x00, 0x80, 0, 0, 0x12, 0x80, 0, 0];
+
+/// A list that plays for four lines: LOAD 7 38, PAUSE 2, STOP.
+const LIST: [u8; 6] = [0x38, 0x07, 0x02, 0x10, 0x20, 0x40];
+
+/// The letters of placed lists, with their lines worked out by hand. What a forecast
+/// says shows what is in RAM.
+#[test]
+fn each_letter_of_lists() {
+    let mut scene = Scene::new();
+    scene.ram[0x4000..0x4006].copy_from_slice(&LIST);
+    // From the end of RAM on to its start: PAUSE 1 and STOP.
+    scene.ram[0xFFFE..].copy_from_slice(&[0x01, 0x10]);
+    scene.ram[..2].copy_from_slice(&[0x20, 0x40]);
+    let scene = scene
+        // No area yet, and none with the bounds 0 and 0.
+        .record('N', 0, 0)
+        .record('K', 0x4000, 6)
+        .record('X', 0, 0)
+        .wait(7, &BOUNDS)
+        // Address and value say nothing here. It is given once.
+        .record('N', 0x1234, 0x56)
+        .record('N', 0, 0)
+        .record('K', 0x4000, 6)
+        .record('K', 0xFFFE, 4)
+        .record('F', 0x8006, 0)
+        // No bytes, an odd number, and 262 of them, by the byte that waits.
+        .record('K', 0x4000, 0)
+        .record('K', 0x4000, 7)
+        .record('T', 15, 1)
+        .record('K', 0x4000, 6)
+        .record('T', 15, 0)
+        // Eight are left, which are copied from the area itself.
+        .record('K', 0x4000, 10)
+        .record('K', 0x8000, 8)
+        .record('F', 0x800A, 0)
+        // The first one plays.
+        .each('B', &UNLOCK)
+        .record('G', 0, 0xB8)
+        .record('W', 0x6C01, 0x80)
+        .record('W', 0x6C0F, 0x01)
+        .record('X', 0x1234, 0)
+        .record('X', 0, 1)
+        .each('X', &[1, 64, 255])
+        .record('K', 0x4000, 4)
+        .each('L', &[0; 4])
+        .record('X', 0, 0)
+        // A reset clears the bounds that wait, and leaves RAM.
+        .record('Z', 0, 0)
+        .record('F', 0x8000, 0)
+        .record('K', 0x4000, 6)
+        .record('N', 0, 0)
+        .wait(7, &BOUNDS)
+        .record('N', 0, 0)
+        .record('K', 0x4000, 6);
+    let lines = [
+        &["18", "18 0 0", "18"][..],
+        &["0"; 8],
+        &["0", "18", "0 32768 0", "0 32774 1", "0 2 4 4 4"],
+        &["18 0 0", "18 0 0", "0", "18 0 0", "0"],
+        &["20 0 0", "0 32778 2", "0 4 13 6 15"],
+        &["0"; 17 + 3],
+        &["22", "0", "21", "21", "21", "0 32774 1"],
+        &["0 10 load 1848 - -", "0 3 pause 2 - -"],
+        &["0 1 - - -", "0 3 control 32 - -", "0"],
+        &["0", "0 4 13 6 15", "18 0 0", "18"],
+        &["0"; 8],
+        &["0", "0 32768 0"],
+    ];
+    let folder = Folder::new();
+    let file = folder.file("lists.scene", &scene.bytes());
+    plus(["run", &file]).prints(&(lines.concat().join("\n") + "\n"));
+}
+
+/// All of RAM as the area, lists of more than 255 bytes, and 64 of them.
+#[test]
+fn many_and_long_lists() {
+    let scene = Scene::new()
+        .wait(7, &[0, 0, 0, 0, 0, 0, 1, 0])
+        .record('N', 0, 0)
+        .record('T', 15, 0x81)
+        // 33,026 bytes, from the end of RAM on.
+        .record('K', 0xFFFF, 2)
+        .record('K', 0, 2)
+        .record('T', 15, 0)
+        .record('K', 0, 254);
+    let scene = (0..62).fold(scene, |scene, _| scene.record('K', 0, 2));
+    let scene = scene.record('K', 0, 2).record('X', 0, 63).record('K', 0, 4);
+    let mut lines = ["0"; 10].join("\n") + "\n0 0 0\n20 0 0\n0\n0 33026 1\n";
+    for n in 0..62 {
+        lines += &format!("0 {} {}\n", 33_280 + 2 * n, 2 + n);
+    }
+    lines += "19 0 0\n0\n0 33402 63\n";
+    let folder = Folder::new();
+    let file = folder.file("many.scene", &scene.bytes());
+    plus(["run", &file]).prints(&lines);
+}
+
 /// All is printed, and the first is told, by what it is; beside it that the scene
 /// ends early.
 #[test]
@@ -330,10 +429,7 @@ fn a_take_of_every_served_call() {
 fn of_editors(tables: &[[u8; 7]]) -> (Scene, &'static str) {
     let mut scene = Scene::new().each('B', &UNLOCK).record('G', 0, 0xB8);
     for table in tables {
-        for (place, byte) in (0..).zip(*table) {
-            scene = scene.record('T', place, byte);
-        }
-        scene = scene.record('S', 9, 9).record('L', 0, 0);
+        scene = scene.wait(0, table).record('S', 9, 9).record('L', 0, 0);
     }
     let scene = scene
         .record('W', 0x6C02, 3)
@@ -522,6 +618,52 @@ fn a_scene_that_resets_or_changes_ram_has_no_take() {
     }
     assert!(!Path::new(&new).exists());
     assert_eq!(fs::read(&old).unwrap(), b"a take");
+}
+
+/// A list that is placed changes RAM, so that there is no take; one that is refused
+/// does not, and area and removals are left out of it.
+#[test]
+fn a_scene_that_places_a_list_has_no_take() {
+    let folder = Folder::new();
+    let (new, old) = (folder.place("new"), folder.file("old", b"a take"));
+    let given = |scene: Scene| scene.wait(7, &BOUNDS).record('N', 0, 0);
+    let scene = given(Scene::new().record('B', 0, 1))
+        .record('K', 0, 3)
+        .record('K', 0, 2)
+        .record('M', 0, 1);
+    let file = folder.file("placed.scene", &scene.bytes());
+    let said = format!("{file}: no take: record number 12 places a list in RAM\n");
+    for out in [&new, &old] {
+        plus(["run", &file, "--take", out]).fails(1, &said);
+        plus([
+            "run",
+            &file,
+            "--take",
+            out,
+            "--table",
+            &folder.place("table"),
+        ])
+        .fails(1, &said);
+    }
+    assert!(!Path::new(&new).exists());
+    assert!(!Path::new(&folder.place("table")).exists());
+    assert_eq!(fs::read(&old).unwrap(), b"a take");
+    assert_eq!(plus(["run", &file]).status, Some(0));
+
+    let (scene, records) = recorded();
+    let scene = given(scene.record('K', 0, 2).record('X', 0, 0))
+        .record('N', 0, 0)
+        .record('K', 0, 20)
+        .record('X', 0, 0)
+        .record('L', 0, 0)
+        .record('B', 0, 5);
+    let file = folder.file("refused.scene", &scene.bytes());
+    assert_eq!(plus(["run", &file, "--take", &new]).status, Some(0));
+    let printed = plus(["records", &new]).out;
+    let lines: Vec<&str> = printed.lines().skip(1).collect();
+    assert_eq!(lines.len(), records.len() + 1);
+    // Four lines before it were served in the scene that it follows, and one more.
+    assert_eq!(lines.last(), Some(&"5 1 0 5"));
 }
 
 #[test]

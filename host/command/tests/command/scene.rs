@@ -43,9 +43,12 @@ fn folder() -> Folder {
 
 /// The bytes of a table put where they wait, and the start.
 fn with_table(bytes: [u8; 7]) -> Scene {
-    let put = |scene: Scene, (place, byte)| scene.record('T', place, byte);
-    let waiting = (0..).zip(bytes).fold(Scene::new(), put);
-    waiting.record('S', 0, 0)
+    Scene::new().wait(0, &bytes).record('S', 0, 0)
+}
+
+/// The bytes of an area's bounds put where they wait, and the area given.
+fn with_area(bytes: [u8; 8]) -> Scene {
+    Scene::new().wait(7, &bytes).record('N', 0, 0)
 }
 
 #[test]
@@ -87,6 +90,26 @@ fn each_word() {
             with_table([0xAA, 0xAA, 0xAA, 0xAA, 0x00, 0xFF, 5]),
         ),
         ("table 12345 6 7", with_table([0x45, 0x23, 1, 0, 6, 0, 7])),
+        ("area 8000 C000", with_area([0, 0x80, 0, 0, 0, 0xC0, 0, 0])),
+        ("area 0 10000", with_area([0, 0, 0, 0, 0, 0, 1, 0])),
+        (
+            "area FEDCba98 1234567",
+            with_area([0x98, 0xBA, 0xDC, 0xFE, 0x67, 0x45, 0x23, 0x01]),
+        ),
+        (
+            "place 4000 24",
+            Scene::new().record('T', 15, 0).record('K', 0x4000, 24),
+        ),
+        (
+            "place FFFF 65535",
+            Scene::new().record('T', 15, 0xFF).record('K', 0xFFFF, 0xFF),
+        ),
+        (
+            "place 1 0256",
+            Scene::new().record('T', 15, 1).record('K', 1, 0),
+        ),
+        ("remove 0", Scene::new().each('X', &[0])),
+        ("remove 255", Scene::new().each('X', &[255])),
         ("export", Scene::new().each('E', &[0])),
         ("acknowledge", Scene::new().each('A', &[0])),
         ("draw", Scene::new().each('P', &[0])),
@@ -227,8 +250,8 @@ fn bad_lines() {
     folder.file("odd", &[1, 2, 3]);
     folder.file("store", &[7; STORE + 1]);
     let names = "ram, list, pixels, unlock, map, poke, peek, crtc, mode, lines, undo, \
-                 picture poke, picture peek, picture undo, table, export, acknowledge, draw, \
-                 forecast, reset";
+                 picture poke, picture peek, picture undo, table, area, place, remove, export, \
+                 acknowledge, draw, forecast, reset";
     let place = |name: &str| folder.place(name);
     for (line, why) in [
         ("jump 8000", format!("'jump' is none of the words {names}")),
@@ -268,6 +291,40 @@ fn bad_lines() {
             "table 0 0 8",
             "table takes PALETTE SPRITES CHANNELS, and '8' is no CHANNELS, a number from 0 to 7"
                 .into(),
+        ),
+        (
+            "area 8000",
+            "area takes FROM UPTO, and UPTO is missing, one to eight hexadecimal digits".into(),
+        ),
+        (
+            "area 123456789 0",
+            "area takes FROM UPTO, and '123456789' is no FROM, one to eight hexadecimal digits"
+                .into(),
+        ),
+        (
+            "area 0 10000 2",
+            "area takes FROM UPTO, and '2' is too much".into(),
+        ),
+        (
+            "place 8000",
+            "place takes ADDRESS LENGTH, and LENGTH is missing, a number from 0 to 65535".into(),
+        ),
+        (
+            "place 8000 65536",
+            "place takes ADDRESS LENGTH, and '65536' is no LENGTH, a number from 0 to 65535".into(),
+        ),
+        (
+            "place 10000 2",
+            "place takes ADDRESS LENGTH, and '10000' is no ADDRESS, one to four hexadecimal digits"
+                .into(),
+        ),
+        (
+            "remove",
+            "remove takes HANDLE, and HANDLE is missing, a number from 0 to 255".into(),
+        ),
+        (
+            "remove 256",
+            "remove takes HANDLE, and '256' is no HANDLE, a number from 0 to 255".into(),
         ),
         (
             "unlock 1",
@@ -486,6 +543,7 @@ fn the_examples() {
         ("split", 71),
         ("processor", 387),
         ("editors", 291),
+        ("lists", 234),
     ] {
         let text = repository(&format!("examples/{name}.scene"));
         let out = folder.place(name);

@@ -128,6 +128,12 @@ impl Scene {
             .fold(self, |scene, &value| scene.record(op, 0, value))
     }
 
+    /// Bytes put where they wait, from a place on.
+    pub fn wait(self, place: u16, bytes: &[u8]) -> Scene {
+        let put = |scene: Scene, (place, &byte)| scene.record('T', place, byte);
+        (place..).zip(bytes).fold(self, put)
+    }
+
     /// Lines that mode 3 refuses, some of them to be shown, and mode 0 after them.
     pub fn refused_lines(self, count: usize) -> Scene {
         let lines = (0..count).fold(self.record('G', 0, 0x83), |scene, n| {

@@ -5,7 +5,7 @@ use std::ffi::OsStr;
 use std::os::unix::ffi::OsStrExt;
 
 /// Each command with its arguments, and its options last if it has some.
-const COMMANDS: [(&str, &[&str]); 12] = [
+const COMMANDS: [(&str, &[&str]); 13] = [
     ("forecast", &["FILE", "[START]", "[PRESCALE]"]),
     ("list", &["FILE", "[START]", "[--asm]"]),
     ("read", &["TEXT", "OUT"]),
@@ -19,6 +19,7 @@ const COMMANDS: [(&str, &[&str]); 12] = [
         &["RAM", "STORE", "TAKE", "[AFTER]", "[--table FILE]"],
     ),
     ("frame", &["FILE", "OUT.png"]),
+    ("map", &["FILE", "OUT.png"]),
     ("export", &["FILE", "OUT", "[--asm]"]),
     ("install", &["PREFIX"]),
 ];
@@ -37,6 +38,7 @@ usage: plus COMMAND ...
   play RAM STORE TAKE [AFTER] [--table FILE]
                                          the chip that a take leads to
   frame FILE OUT.png                     a picture of the frame after a scene
+  map FILE OUT.png                       a picture of the lists after a scene
   export FILE OUT [--asm]                what the registers hold after a scene
   install PREFIX                         header, libraries, manual, this program
   help [COMMAND]                         this, or all about one command

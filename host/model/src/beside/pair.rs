@@ -2,7 +2,7 @@
 
 use super::Premises;
 use crate::compare::{Buffers, Call};
-use crate::random::{any_accesses, any_table, any_word, Random};
+use crate::random::{any_accesses, any_table, put_any_words, Random};
 use plus::{Editor, Table, EXPORT, LINE, RAM, STORE, UNLOCK};
 
 /// What the two runs do next.
@@ -14,9 +14,13 @@ pub enum Step {
     Apart([Vec<Call>; 2]),
 }
 
+/// Bytes that lists are cut from.
+const LISTS: usize = 512;
+
 /// Two runs from one state that differ in one editor's calls.
 pub struct Pair {
     pub seed: u64,
+    pub premises: Premises,
     /// The editor whose calls are in both.
     pub watching: Editor,
     pub lent: Buffers,
@@ -30,14 +34,17 @@ impl Pair {
         let mut random = Random::new(seed);
         let watching = random.pick(&Editor::BOTH);
         let table = any_table(&mut random);
+        let area = any_area(&mut random);
         let mut making = Making {
             random,
             table,
+            area,
             watching,
             premises,
         };
         Pair {
             seed,
+            premises,
             watching,
             lent: making.lent(),
             before: making.before(),
@@ -46,21 +53,32 @@ impl Pair {
     }
 }
 
+/// The bounds of an area of some 40 words: mostly where channels play from reset on,
+/// and always with addresses that differ in their low byte alone.
+fn any_area(r: &mut Random) -> (u32, u32) {
+    let from = match r.chance(4) {
+        true => 256 * r.below(256) + 2 * r.below(64),
+        false => 2 * r.below(4),
+    };
+    let words = 16 + r.below(48);
+    (from as u32, (from + 2 * words) as u32)
+}
+
 struct Making {
     random: Random,
     table: Table,
+    area: (u32, u32),
     watching: Editor,
     premises: Premises,
 }
 
 impl Making {
-    /// RAM of words with many an INT, and any pixels.
+    /// RAM and lists of words with many an INT, and any pixels.
     fn lent(&mut self) -> Buffers {
         let r = &mut self.random;
-        let mut ram = vec![0; RAM];
-        for place in ram.chunks_exact_mut(2) {
-            place.copy_from_slice(&any_word(r).to_le_bytes());
-        }
+        let (mut ram, mut lists) = (vec![0; RAM], vec![0; LISTS]);
+        put_any_words(r, &mut ram);
+        put_any_words(r, &mut lists);
         let mut store = vec![0; STORE];
         r.fill(&mut store);
         Buffers {
@@ -68,16 +86,20 @@ impl Making {
             store,
             line: vec![0; LINE],
             export: vec![0; EXPORT],
+            lists: lists.into(),
         }
     }
 
     /// Unlocked and mapped, IVR set, frames of 32 lines; calls of both editors
-    /// before the start and after it.
+    /// before the start and after it. Mostly an area for lists is given.
     fn before(&mut self) -> Vec<Call> {
         let mut calls: Vec<Call> = UNLOCK.map(Call::WriteBc).into();
         calls.push(Call::Write7f(0xB8));
         for (register, byte) in [(4, 3), (9, 7)] {
             calls.extend([Call::WriteBc(register), Call::WriteBd(byte)]);
+        }
+        if !self.random.chance(8) {
+            calls.push(self.give());
         }
         self.some(&mut calls);
         // Under a table IVR could not be set.
@@ -175,6 +197,8 @@ impl Making {
         let byte = match address {
             // Lines that the frame has.
             0x6800 | 0x6801 => self.random.below(32) as u8,
+            // Mostly where the lists are.
+            0x6C01 | 0x6C05 | 0x6C09 if !self.random.chance(4) => (self.area.0 >> 8) as u8,
             _ => self.random.byte(),
         };
         match self.random.below(8) {
@@ -194,7 +218,34 @@ impl Making {
         }
     }
 
+    fn give(&mut self) -> Call {
+        let (from, upto) = self.area;
+        Call::Area { from, upto }
+    }
+
+    /// A list of a few words, seldom of more than there are, or of no length.
+    fn place(&mut self) -> Call {
+        let r = &mut self.random;
+        let list = match r.chance(16) {
+            true => r.below(100) as usize,
+            false => 2 * (1 + r.below(12)) as usize,
+        };
+        let at = 2 * r.below((LISTS - list) as u64 / 2) as usize;
+        Call::Place { ram: RAM, at, list }
+    }
+
+    fn of_lists(&mut self) -> Call {
+        match self.random.below(20) {
+            0 => self.give(),
+            1..=10 => self.place(),
+            _ => Call::Remove(self.random.either(8, 70, 8) as u32),
+        }
+    }
+
     fn of_host(&mut self) -> Call {
+        if self.random.chance(5) {
+            return self.of_lists();
+        }
         let r = &mut self.random;
         match r.below(24) {
             0..=11 => self.line(),

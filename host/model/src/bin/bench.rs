@@ -24,6 +24,8 @@ enum Work {
     PageWrite,
     PageRead,
     Undo,
+    Place,
+    Remove,
     Export,
     Frame,
     /// A frame at whose start every sprite is put somewhere else.
@@ -49,6 +51,22 @@ const LINES: usize = 1_600 * 19;
 /// A list is mended once, so there are as many of the same as a timed run mends.
 const LISTS: usize = 20;
 
+/// A list is placed and removed once, so there are as many chips as a timed run has of
+/// these calls.
+const CHIPS: usize = 2_000;
+
+/// The lists that are placed before such a call.
+#[derive(Clone, Copy)]
+enum Placed {
+    /// None, and no area.
+    Nothing,
+    /// 32 of 256 bytes by rising handles, with a gap as long in their middle.
+    Between,
+    /// 63, each a word longer than the one below it, by falling handles, and room for a
+    /// word behind them, or none.
+    Falling { room: bool },
+}
+
 /// A row of the table: how many calls one timed run makes, how many sprites are
 /// on every line, and the screen mode.
 struct Case {
@@ -65,6 +83,7 @@ struct Case {
     apart: u16,
     /// The sprite of the highest number stands leftmost, and not that of the lowest.
     falling: bool,
+    placed: Placed,
 }
 
 const fn case(name: &'static str, work: Work, count: usize, sprites: u16, mode: u8) -> Case {
@@ -78,6 +97,15 @@ const fn case(name: &'static str, work: Work, count: usize, sprites: u16, mode: 
         magnification: 0b1111,
         apart: 40,
         falling: false,
+        placed: Placed::Nothing,
+    }
+}
+
+/// A call on lists, with some that are placed.
+const fn lists(name: &'static str, work: Work, placed: Placed) -> Case {
+    Case {
+        placed,
+        ..case(name, work, CHIPS, 0, 1)
     }
 }
 
@@ -86,7 +114,7 @@ const fn line(name: &'static str, sprites: u16, mode: u8) -> Case {
     case(name, Work::Line, LINES, sprites, mode)
 }
 
-const CASES: [Case; 36] = [
+const CASES: [Case; 40] = [
     line("line, no sprite", 0, 1),
     line("line, no sprite, mode 0", 0, 0),
     line("line, no sprite, mode 2", 0, 2),
@@ -165,6 +193,22 @@ const CASES: [Case; 36] = [
     case("page write", Work::PageWrite, 100_000, 0, 1),
     case("page read", Work::PageRead, 100_000, 0, 1),
     case("undo", Work::Undo, 100_000, 0, 1),
+    lists(
+        "place 256 bytes between 32 lists",
+        Work::Place,
+        Placed::Between,
+    ),
+    lists(
+        "place a word behind 63 lists, highest handle lowest",
+        Work::Place,
+        Placed::Falling { room: true },
+    ),
+    lists(
+        "the same with no gap",
+        Work::Place,
+        Placed::Falling { room: false },
+    ),
+    lists("remove one of 32 lists", Work::Remove, Placed::Between),
     case("export", Work::Export, 10_000, 0, 1),
     case("forecast, 32,767 words", Work::Forecast, 20, 0, 1),
     case("print, 30,000 words", Work::Print, 20, 0, 1),
@@ -278,7 +322,64 @@ fn set_up<M: UnderTest>(case: &Case) -> M {
     for i in 0..PLACES as u16 {
         machine.poke(0x6400 + i % 64, i as u8);
     }
+    place_lists(&mut machine, case.placed);
     machine
+}
+
+/// The chips of a case on lists. Each has had a list more than it has, so that the
+/// model's Vec has room for it again.
+fn copies<M: UnderTest + Clone>(machine: &M, case: &Case) -> Vec<M> {
+    if let Placed::Nothing = case.placed {
+        return vec![];
+    }
+    let (mut ram, list) = (vec![0; RAM], vec![0; bytes_placed(case)]);
+    let mut machines = vec![machine.clone(); CHIPS];
+    for machine in &mut machines {
+        let (answer, placed) = machine.place(&mut ram, &list);
+        if answer == 0 {
+            assert_eq!(machine.remove(placed.handle), 0);
+        }
+    }
+    machines
+}
+
+/// How many bytes the list has that is placed.
+fn bytes_placed(case: &Case) -> usize {
+    match case.placed {
+        Placed::Between => 256,
+        _ => 2,
+    }
+}
+
+fn place_lists<M: UnderTest>(machine: &mut M, placed: Placed) {
+    let mut ram = vec![0; RAM];
+    let mut place = |machine: &mut M, bytes: usize| {
+        assert_eq!(machine.place(&mut ram, &vec![0; bytes]).0, 0);
+    };
+    match placed {
+        Placed::Nothing => {}
+        Placed::Between => {
+            assert_eq!(machine.area(0x8000, 0xC000), 0);
+            (0..33).for_each(|_| place(machine, 256));
+            assert_eq!(machine.remove(16), 0);
+        }
+        Placed::Falling { room } => {
+            let bytes = |slot: u32| 2 * (slot + 1) as usize;
+            let all: usize = (0..63).map(bytes).sum();
+            let upto = 0x8000 + all + 2 * usize::from(room);
+            assert_eq!(machine.area(0x8000, upto as u32), 0);
+            (0..63).for_each(|slot| place(machine, bytes(slot)));
+            // Two handles changed for each other: the longer list goes first, to the room
+            // that it has, since the other is too short.
+            for (low, high) in (0..31).map(|slot| (slot, 62 - slot)) {
+                assert_eq!([low, high].map(|slot| machine.remove(slot)), [0, 0]);
+                place(machine, bytes(high));
+                place(machine, bytes(low));
+            }
+            let falls = machine.lists().is_sorted_by(|a, b| a.address > b.address);
+            assert!(falls, "the highest handle is lowest");
+        }
+    }
 }
 
 /// A sprite's coordinates, as writes to the page.
@@ -315,6 +416,8 @@ macro_rules! calls_of {
             if case.transparent {
                 lent.store.fill(0);
             }
+            let mut machines = copies(&machine, case);
+            let list = vec![0x40; bytes_placed(case)];
             let start = Instant::now();
             match case.work {
                 Work::Line => repeat(count, |_| {
@@ -336,6 +439,12 @@ macro_rules! calls_of {
                         black_box(machine.undo($song, &mut lent.store));
                     });
                 }
+                Work::Place => repeat(count, |i| {
+                    black_box(machines[i].place(&mut lent.ram, &list));
+                }),
+                Work::Remove => repeat(count, |i| {
+                    black_box(machines[i].remove(20));
+                }),
                 Work::Export => repeat(count, |_| {
                     black_box(machine.export(&mut lent.export));
                 }),
@@ -391,6 +500,7 @@ macro_rules! calls_of {
             }
             black_box((
                 &machine,
+                &machines,
                 &lent.line,
                 &lent.export,
                 &lent.text_room,

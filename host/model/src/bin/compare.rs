@@ -1,6 +1,7 @@
 //! Compares the core with the model: `compare [CALLS [SEED]]`, by default one
 //! million calls from seed 1. The line's call is made with buffers of every other
-//! length too; every word is printed, read and mended, a text for every five calls, a
+//! length too, and those on lists for every set of reasons to refuse them and in every
+//! run of a few in a small area; every word is printed, read and mended, a text for every five calls, a
 //! take for every ten and a list mended for every fifty; for every hundred a session
 //! is recorded and its takes played, and a list played on both beside what it is
 //! mended to.
@@ -9,7 +10,7 @@ use std::env;
 use std::process::ExitCode;
 use std::time::Instant;
 
-use model::compare::{compare, line, listing, mend, replay, take};
+use model::compare::{compare, line, listing, lists, mend, replay, take};
 use model::Model;
 use plus::Chip;
 
@@ -44,6 +45,10 @@ fn compared(count: u64, seed: u64) -> Result<(), String> {
     print!("{tally}");
     let [_, lengths, _, _, mode, ..] = line::refusals::<Model>()?.answers;
     println!("lines refused with 1 by {lengths} sets of lengths and modes, with 4 by {mode}");
+    lists::refusals::<Model>()?;
+    let small = lists::small::<Model>((0x8000, 0x800C), 6)?;
+    let (served, no_gap) = (small.place[0], small.place[20]);
+    println!("{served} lists placed in a small area, and {no_gap} that had no gap");
     listing::each_word::<Model>()?;
     let answers = listing::changed_texts::<Model>(count / 5, seed)?;
     println!("{} texts, {} of them refused 7", count / 5, answers[7]);

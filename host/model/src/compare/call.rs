@@ -1,10 +1,14 @@
 //! One call of a script, made on a machine.
 
 use crate::machine::Machine;
-use plus::{Access, Answer, Editor, Length, Report, Table};
+use plus::{Access, Answer, Editor, Length, Placed, Report, Table};
+use std::rc::Rc;
 
 /// Bytes that follow each buffer, for lengths above the right one.
 pub const SPARE: usize = 16;
+
+/// A list is cut from what is lent below this place.
+pub const LISTS: usize = 2_048;
 
 /// What the host lends. A call gets as many bytes of it as the script says.
 #[derive(Clone, PartialEq, Eq)]
@@ -13,6 +17,9 @@ pub struct Buffers {
     pub store: Vec<u8>,
     pub line: Vec<u8>,
     pub export: Vec<u8>,
+    /// What lists that are placed are cut from. No call can write it, so that all have
+    /// the same one.
+    pub lists: Rc<[u8]>,
 }
 
 /// One call. A buffer's number is the length that is lent.
@@ -39,6 +46,17 @@ pub enum Call {
         editor: Editor,
         store: usize,
     },
+    Area {
+        from: u32,
+        upto: u32,
+    },
+    /// A list of so many bytes, the first of them at a place among those lent.
+    Place {
+        ram: usize,
+        at: usize,
+        list: usize,
+    },
+    Remove(u32),
     Export {
         out: usize,
     },
@@ -69,6 +87,7 @@ pub enum Reply {
     Answer(Answer),
     /// The answer, and the byte read or the vector.
     Byte(Answer, u8),
+    Placed(Answer, Placed),
     Line(Answer, Report),
     Length(Length),
 }
@@ -79,6 +98,7 @@ impl Reply {
             Reply::Nothing => 0,
             Reply::Answer(answer) => answer.number(),
             Reply::Byte(answer, _) => answer.number(),
+            Reply::Placed(answer, _) => answer.number(),
             Reply::Line(answer, _) => answer.number(),
             Reply::Length(length) => length.answer.number(),
         }
@@ -86,7 +106,7 @@ impl Reply {
 }
 
 impl Call {
-    pub const NAMES: [&'static str; 12] = [
+    pub const NAMES: [&'static str; 15] = [
         "reset",
         "write_bc",
         "write_bd",
@@ -95,6 +115,9 @@ impl Call {
         "page_read",
         "page_write",
         "undo",
+        "area",
+        "place",
+        "remove",
         "export",
         "acknowledge",
         "line",
@@ -112,10 +135,13 @@ impl Call {
             Call::PageRead { .. } => Some(5),
             Call::PageWrite { .. } => Some(6),
             Call::Undo { .. } => Some(7),
-            Call::Export { .. } => Some(8),
-            Call::Acknowledge => Some(9),
-            Call::Line { .. } => Some(10),
-            Call::Forecast { .. } => Some(11),
+            Call::Area { .. } => Some(8),
+            Call::Place { .. } => Some(9),
+            Call::Remove(_) => Some(10),
+            Call::Export { .. } => Some(11),
+            Call::Acknowledge => Some(12),
+            Call::Line { .. } => Some(13),
+            Call::Forecast { .. } => Some(14),
             Call::Ram { .. } => None,
         }
     }
@@ -152,6 +178,13 @@ impl Call {
             Call::Undo { editor, store } => {
                 Reply::Answer(machine.undo(editor, &mut lent.store[..store]))
             }
+            Call::Area { from, upto } => Reply::Answer(machine.area(from, upto)),
+            Call::Place { ram, at, list } => {
+                let list = &lent.lists[at..][..list];
+                let (number, placed) = machine.place(&mut lent.ram[..ram], list);
+                Reply::Placed(number, placed)
+            }
+            Call::Remove(handle) => Reply::Answer(machine.remove(handle)),
             Call::Export { out } => Reply::Answer(machine.export(&mut lent.export[..out])),
             Call::Acknowledge => {
                 let (number, vector) = machine.acknowledge();

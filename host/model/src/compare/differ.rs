@@ -2,9 +2,9 @@
 
 use super::Buffers;
 use crate::machine::Machine;
-use plus::{Editor, State};
+use plus::{Editor, List, State};
 
-/// How the states or the records of two machines differ, if they do.
+/// How the states, the records or the placed lists of two machines differ, if they do.
 pub(super) fn machines(core: &impl Machine, other: &impl Machine) -> Option<String> {
     let (state, expected) = (core.state(), other.state());
     if state != expected {
@@ -16,7 +16,13 @@ pub(super) fn machines(core: &impl Machine, other: &impl Machine) -> Option<Stri
             return Some(first_entry(editor, &record, &expected));
         }
     }
-    None
+    let (bounds, expected) = (core.bounds(), other.bounds());
+    if bounds != expected {
+        return Some(format!(
+            "core has the area {bounds:04X?}, not {expected:04X?}"
+        ));
+    }
+    first_list(&core.lists(), &other.lists())
 }
 
 /// The parts of the state that differ, both ways.
@@ -53,6 +59,14 @@ fn first_entry(editor: Editor, core: &[(u16, u8)], expected: &[(u16, u8)]) -> St
     let at = at.unwrap_or(most);
     let (entry, not) = (core.get(at), expected.get(at));
     format!("core has {entry:02X?} at {at} of the record of {editor:?}, not {not:02X?}")
+}
+
+/// The first list that differs, by rising handles.
+fn first_list(core: &[List], expected: &[List]) -> Option<String> {
+    let most = core.len().max(expected.len());
+    let at = (0..most).find(|&at| core.get(at) != expected.get(at))?;
+    let (list, not) = (core.get(at), expected.get(at));
+    Some(format!("core has placed {list:04X?}, not {not:04X?}"))
 }
 
 /// The first byte of a buffer that differs.

@@ -1,5 +1,7 @@
 //! What a script says: phrases of calls that go together.
 
+mod lists;
+
 use super::call::{Call, SPARE};
 use crate::random::{any_accesses, any_list, any_table, any_word, Random};
 use plus::{Editor, Table, EXPORT, LINE, RAM, STORE, UNLOCK};
@@ -17,6 +19,8 @@ pub(super) struct Writer {
     editor: Editor,
     /// What most starts give.
     table: Table,
+    /// The bounds of the last area that was to be given.
+    area: (u32, u32),
     pub(super) calls: Vec<Call>,
 }
 
@@ -25,6 +29,7 @@ impl Writer {
         Writer {
             editor: random.pick(&Editor::BOTH),
             table: any_table(&mut random),
+            area: lists::any_bounds(&mut random),
             random,
             calls: Vec::new(),
         }
@@ -39,7 +44,7 @@ impl Writer {
         if self.random.chance(4) {
             self.editor = self.random.pick(&Editor::BOTH);
         }
-        match self.random.below(56) {
+        match self.random.below(60) {
             0..=1 => self.unlock(2),
             2 => self.opening(),
             3..=5 => self.map(),
@@ -58,6 +63,8 @@ impl Writer {
             52 => self.export(),
             53 if self.random.chance(2) => self.editing(),
             54 => self.start(),
+            55 if self.random.chance(2) => self.keeping_lists(),
+            56..=58 => self.lists(),
             _ if self.random.chance(3) => self.push(Call::Reset),
             _ => self.opening(),
         }

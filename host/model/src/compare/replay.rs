@@ -79,9 +79,13 @@ pub fn for_a_take(calls: &[Call]) -> (Vec<Call>, Table) {
     (calls.collect(), table)
 }
 
-/// Whether a take can have the call, or go on after it.
+/// Whether a take can have the call, or go on after it. Those on lists it leaves out,
+/// and placing one changes RAM.
 fn in_a_take(call: &Call) -> bool {
-    !matches!(call, Call::Reset | Call::Ram { .. })
+    !matches!(
+        call,
+        Call::Reset | Call::Ram { .. } | Call::Area { .. } | Call::Place { .. } | Call::Remove(_)
+    )
 }
 
 /// Makes a call on a recorder; whether a line has passed.

@@ -1,9 +1,10 @@
 //! Scripts of calls, each made from a seed alone.
 
-use super::call::{Buffers, Call, SPARE};
+use super::call::{Buffers, Call, LISTS, SPARE};
 use super::phrases::Writer;
-use crate::random::{any_state, any_table, any_word, held, Random};
+use crate::random::{any_state, any_table, held, put_any_words, Random};
 use plus::{State, EXPORT, LINE, RAM, STORE};
+use std::rc::Rc;
 
 /// A state to start from, what is lent, and the calls.
 pub struct Script {
@@ -67,6 +68,15 @@ fn any_start(random: &mut Random) -> State {
     state
 }
 
+/// What lists are cut from: words without a STOP, and then any bytes.
+pub(super) fn lists(r: &mut Random) -> Rc<[u8]> {
+    let mut lists = vec![0; LISTS + RAM + SPARE];
+    let (words, rest) = lists.split_at_mut(2 * LISTS);
+    put_any_words(r, words);
+    r.fill(rest);
+    lists.into()
+}
+
 /// RAM of zeros, of words without a STOP, or of any bytes.
 pub(super) fn buffers(r: &mut Random) -> Buffers {
     let mut lent = Buffers {
@@ -74,14 +84,11 @@ pub(super) fn buffers(r: &mut Random) -> Buffers {
         store: vec![0; STORE + SPARE],
         line: vec![0; LINE + SPARE],
         export: vec![0; EXPORT + SPARE],
+        lists: lists(r),
     };
     match r.below(4) {
         0 => {}
-        1 => {
-            for place in lent.ram.chunks_exact_mut(2) {
-                place.copy_from_slice(&any_word(r).to_le_bytes());
-            }
-        }
+        1 => put_any_words(r, &mut lent.ram),
         _ => r.fill(&mut lent.ram),
     }
     r.fill(&mut lent.store);

@@ -1,6 +1,6 @@
 //! The model's state as the core's, and back: structs of the same names and
-//! fields, and a take's record like them. The model's records of page writes are
-//! lists and no part of the state.
+//! fields, and a take's record and a placed list like them. The model's records of
+//! page writes and its placed lists are Vecs and no part of the state.
 
 use crate::chip::{self, Model};
 use plus::{Editing, Held, State};
@@ -42,6 +42,7 @@ same! {
     Interrupts { raster, last_raster, ivr }
     Record { line, kind, address, value }
     Table { palette, sprites, channels }
+    List { handle, address, length }
 }
 
 impl From<plus::Editor> for chip::Editor {

@@ -14,6 +14,7 @@ mod kept;
 mod line;
 mod line_call;
 mod listing;
+mod lists;
 mod lock;
 mod mend;
 mod page;

@@ -1,7 +1,7 @@
 //! A chip that notes the calls made on it.
 
 use super::{kind, Record};
-use crate::{Access, Answer, Chip, Editor, Report, Table};
+use crate::{Access, Answer, Chip, Editor, Placed, Report, Table};
 use std::error::Error;
 use std::fmt;
 use std::ops::Deref;
@@ -20,7 +20,9 @@ pub enum Noted {
 /// none if it is refused. Only writes to the ports and to the page, acknowledges,
 /// undos and starts are ever noted, and refused ones never. Made on a chip after
 /// reset, each after as many lines as its record says, and with the same RAM, store
-/// and table, the calls noted lead to the same state.
+/// and table, the calls noted lead to the same state, but for the area for lists,
+/// which a take leaves out. A host that places a list while it records has another
+/// RAM from there on, and a take is played on one.
 ///
 /// A take says nothing of a start's table, so that all of them have to give one:
 /// [`given_table`](Recorder::given_table) hands it out beside the records.
@@ -185,6 +187,24 @@ impl Recorder {
             self.line = self.line.and_then(|passed| passed.checked_add(1));
         }
         (answer, report)
+    }
+
+    /// [`Chip::area`], which no take has.
+    #[must_use]
+    pub fn area(&mut self, from: u32, upto: u32) -> Answer {
+        self.chip.area(from, upto)
+    }
+
+    /// [`Chip::place`], which no take has.
+    #[must_use]
+    pub fn place(&mut self, ram: &mut [u8], list: &[u8]) -> (Answer, Placed) {
+        self.chip.place(ram, list)
+    }
+
+    /// [`Chip::remove`], which no take has.
+    #[must_use]
+    pub fn remove(&mut self, handle: u32) -> Answer {
+        self.chip.remove(handle)
     }
 
     /// [`Chip::page_read`], which changes nothing.

@@ -13,8 +13,8 @@ pub struct Replayed {
     pub answer: Answer,
     /// With 13 the number of the first bad record, from 1.
     pub bad: usize,
-    /// The chip after the last record, with its records of page writes; after a
-    /// refusal the one after reset.
+    /// The chip after the last record, with its records of page writes and with no area
+    /// for lists; after a refusal the one after reset.
     pub chip: Chip,
     /// Lines stepped, that is the last record's line number.
     pub lines: u32,
