@@ -44,6 +44,10 @@
  * and its mark does, or some word from a mark below its address up to that. Nothing else is kept for a channel: not what it comes
  * to in a later list, nor what it plays outside of the lists, which the next list may be put over, nor anything while it is off.
  *
+ * A channel can be muted, by plus_mute alone. It plays on as it would: its LOADs take their cycles and are reported with their low
+ * bits, but leave the PSG as it is. No editor sees or sets that, and it is no register of the page. A start, an undo and a write to
+ * DCSR leave it, and a reset ends it.
+ *
  * A take is a file: a comment of any bytes, records of PLUS_TAKE_RECORD bytes, and a trailer of PLUS_TAKE_TRAILER bytes, which has
  * the record count, the offset of the first record, 4 bytes each, and the letters PLTK. A record has the line number in 4 bytes,
  * the kind in 1, the address in 2 and the value in 1. All numbers stand low byte first. */
@@ -61,8 +65,8 @@ extern "C" {
 /* The version of this header: 10000 times the major number, 100 times the minor one, and the patch. Another patch changes nothing
  * that a caller could see; with another minor or major number a struct may have another layout, the state above all. What each
  * version changes for a caller is in CHANGELOG.md. */
-#define PLUS_VERSION 1300
-#define PLUS_VERSION_TEXT "0.13.0"
+#define PLUS_VERSION 1400
+#define PLUS_VERSION_TEXT "0.14.0"
 
 enum { PLUS_RAM = 65536, PLUS_STORE = 4096, PLUS_LINE = 640, PLUS_EXPORT = 477, PLUS_PLACES = 256 };
 
@@ -83,7 +87,7 @@ enum {
     PLUS_DONE = 0,              /* done */
     PLUS_WRONG_LENGTH = 1,      /* a buffer has another length than its call wants, or fewer words than are in use */
     PLUS_NOT_MAPPED = 2,        /* the page is not mapped, or the address is not in it (4000h to 7FFFh) */
-    PLUS_NOTHING_THERE = 3,     /* no register there that could be written, or no record with that number */
+    PLUS_NOTHING_THERE = 3,     /* no register there that could be written, or no record or channel with that number */
     PLUS_MODE_THREE = 4,        /* a line in screen mode 3 can't be drawn, and is not stepped either */
     PLUS_NO_INTERRUPT = 5,      /* nothing to acknowledge */
     PLUS_NO_STOP = 6,           /* the list has no STOP up to the end of RAM */
@@ -108,7 +112,7 @@ enum {
 /* What a channel did on a line. */
 enum {
     PLUS_SAT_OUT = 0,
-    PLUS_LOAD = 1,
+    PLUS_LOAD = 1, /* also of a muted channel */
     PLUS_PAUSE = 2,
     PLUS_REPEAT = 3,
     PLUS_CONTROL = 4,
@@ -126,7 +130,8 @@ enum {
 /* Who makes a page read, a page write or an undo. Any number above 1 is the picture editor too. */
 enum { PLUS_SONG = 0, PLUS_PICTURE = 1 };
 
-/* The kind of a record: which call it is. The page writes alone have an address; acknowledge, undos and start have no value. */
+/* The kind of a record: which call it is. The page writes and a mute alone have an address; acknowledge, undos and start have no
+ * value. */
 enum {
     PLUS_TAKE_WRITE_BC = 1,
     PLUS_TAKE_WRITE_BD = 2,
@@ -136,7 +141,8 @@ enum {
     PLUS_TAKE_UNDO = 6,          /* the song editor's */
     PLUS_TAKE_PICTURE_WRITE = 7, /* the picture editor's page write */
     PLUS_TAKE_PICTURE_UNDO = 8,  /* the picture editor's undo */
-    PLUS_TAKE_START = 9          /* with the one table that plus_replay is lent */
+    PLUS_TAKE_START = 9,         /* with the one table that plus_replay is lent */
+    PLUS_TAKE_MUTE = 10          /* its address is the channel, its value 1 for on and 0 for off */
 };
 
 /* Who may write what: bit n is palette entry, sprite or channel n, and set for the picture editor. Every number is a table; of the
@@ -194,6 +200,7 @@ typedef struct {
     uint16_t pause;
     uint16_t counter; /* passes that LOOP has left */
     uint16_t mark;    /* where LOOP goes back to */
+    bool muted;       /* its LOADs leave the PSG; set by plus_mute alone */
 } PlusChannel;
 
 typedef struct {
@@ -307,11 +314,12 @@ typedef struct {
     uint16_t new_word; /* what stands there now */
 } PlusChange;
 
-/* One call of a take. It is bad if its kind is none of the above, if its kind has no address or no value and that is not 0, or if
- * its line number is below that of the record before it. */
+/* One call of a take. It is bad if its kind is none of the above, if its kind has no address or no value and that is not 0, if it
+ * is a mute with another value than 0 and 1, or if its line number is below that of the record before it. A mute of a channel that
+ * there is not is no bad record: playing it counts it at 3. */
 typedef struct {
     uint32_t line; /* lines from the reset up to the call: of plus_line the served calls */
-    uint8_t kind;  /* PLUS_TAKE_WRITE_BC to PLUS_TAKE_START */
+    uint8_t kind;  /* PLUS_TAKE_WRITE_BC to PLUS_TAKE_MUTE */
     uint16_t address;
     uint8_t value;
 } PlusRecord;
@@ -352,7 +360,8 @@ typedef struct {
 /* What the library was built with. No answer number. */
 PlusBuilt plus_built(void);
 
-/* The chip after reset, with no table, nothing to undo and no area for lists. No answer number: nothing can refuse it. */
+/* The chip after reset, with no table, nothing to undo, no area for lists and no channel muted. No answer number: nothing can
+ * refuse it. */
 PlusChip plus_reset(void);
 
 /* A byte to port BCxx: selects a 6845 register and feeds the lock. Answers 0. */
@@ -389,6 +398,10 @@ uint8_t plus_export(PlusChip chip, uint8_t *out, size_t out_length);
 
 /* Serves the waiting interrupt that comes first and gives its vector. Answers 0 or 5. */
 PlusAcknowledged plus_acknowledge(PlusChip chip);
+
+/* Mutes a channel, or ends that. Nothing else of the chip changes. All 16 bits of the channel count. Answers 0, or 3 for a channel
+ * above 2. */
+PlusAnswered plus_mute(PlusChip chip, uint16_t channel, bool on);
 
 /* A line: it is drawn, and then the chip stepped. Each of the PLUS_LINE bytes becomes the number of a palette entry, by the state
  * before the call; the state that comes back is the next line's, after sound, raster compare, split compare and counters. The last
@@ -428,10 +441,10 @@ PlusReadBack plus_read(const uint8_t *text, size_t text_length, uint16_t *words,
 
 /* Mends an old list, which is the first `used` words of a buffer and may have none: 1000h and words that do nothing become 4000h,
  * and a control word keeps LOOP, INT and STOP (bits 0, 4, 5) and no other bit. If none of these words has STOP, 4020h goes after
- * the last. From a channel with no pause and no loop the list plays as it did, up to its first STOP or its end. Every change is
- * reported, by rising places, and the added STOP last: in two numbers, the place, and 65,536 times the old word plus the new one,
- * which plus_change takes apart. A report of 2 * (used + 1) numbers always has the room. Words and numbers beyond stay. Answers 0,
- * 1, 16 or 17, tested in this order. */
+ * the last. From a channel with no pause and no loop that is not muted the list plays as it did, up to its first STOP or its end.
+ * Every change is reported, by rising places, and the added STOP last: in two numbers, the place, and 65,536 times the old word
+ * plus the new one, which plus_change takes apart. A report of 2 * (used + 1) numbers always has the room. Words and numbers beyond
+ * stay. Answers 0, 1, 16 or 17, tested in this order. */
 PlusMended plus_mend(uint16_t *words, size_t words_length, size_t used, uint64_t *report, size_t report_length);
 
 /* The change of a report with a number, from 0; all 0 where a report of this length has no room for so many. No answer number. */
@@ -480,7 +493,7 @@ static inline const char *plus_answer_text(uint8_t number) {
         "done",
         "a buffer has another length than its call wants",
         "the page is not mapped, or the address is not in it",
-        "no register there that could be written, or no such record",
+        "no register there that could be written, or no such record or channel",
         "a line in screen mode 3 can't be drawn",
         "no interrupt is waiting",
         "the list has no STOP up to the end of RAM",

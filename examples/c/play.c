@@ -150,6 +150,20 @@ static void put_editors(PlusChip chip) {
     }
 }
 
+/* The list played with channel 0 muted and then not: register 7 after it, which a LOAD of the list sets. */
+static void put_muted(PlusChip chip) {
+    for (int on = 1; on >= 0; on--) {
+        PlusAnswered muted = plus_mute(chip, 0, on);
+        served("mute", muted.answer);
+        chip = muted.chip;
+        PlusChip played = chip;
+        while (played.sound.channels[0].enabled)
+            played = plus_line(played, ram, sizeof ram, store, sizeof store, line, sizeof line, PLUS_OFF, PLUS_OFF, PLUS_OFF).chip;
+        printf("%s: register 7 is %02Xh\n", on ? "muted" : "heard", played.sound.psg[7]);
+    }
+    printf("muted: channel 3: %s\n", plus_answer_text(plus_mute(chip, 3, true).answer));
+}
+
 /* An old list mended: 3ABCh and 1000h do nothing, 4F81h is a LOOP with stray bits, and no word is a STOP. There is room for one, and for
  * a change of every word. */
 static void put_mended(void) {
@@ -207,6 +221,7 @@ int main(void) {
     play("played beside PSG writes", ready(), PLUS_PSG_WRITE);
     put_take("a song");
     put_editors(ready());
+    put_muted(ready());
     put_mended();
     put_placed(ready());
     return 0;

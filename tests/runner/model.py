@@ -11,7 +11,7 @@ PICTURE = 1
 
 class Channel:
     def __init__(self):
-        self.enabled = self.interrupt = False
+        self.enabled = self.interrupt = self.muted = False
         self.address = self.prescale = self.pause = self.count = self.loops = self.mark = 0
 
 
@@ -266,6 +266,13 @@ class Chip:
             words += [c.mark] + list(range(c.mark, c.address + 1, 2))
         return c.enabled and any(start <= a < end for a in words)
 
+    # 02, L13: the host mutes a channel, whose LOADs leave the PSG then, or lets it be heard again
+    def mute(self, n, on):
+        if n > 2:
+            return 3
+        self.channels[n].muted = on
+        return 0
+
     # one line; two bits of the byte for each channel, from channel 0 up, are what the processor does at the 8255
     def sound(self, ram, processor):
         words = []
@@ -288,7 +295,8 @@ class Chip:
             code, low, kind = w >> 12, w & 0xFFF, 'nothing'
             if code == 0:
                 kind = 'load'
-                self.psg[low >> 8] = low & 255
+                if not c.muted:
+                    self.psg[low >> 8] = low & 255
             elif code == 1:
                 kind = 'pause'
                 if low:
@@ -456,6 +464,10 @@ def play(ram, store, records):
             out.append('%d %d %d' % chip.place(ram, listed))
         elif op == ord('X'):
             out.append('%d' % chip.remove(value))
+        elif op == ord('Q'):
+            out.append('%d' % chip.mute(a, value != 0))
+        elif op == ord('H'):
+            out.append('0 ' + bytes(chip.psg).hex())
         elif op == ord('Z'):
             chip, waiting = Chip(), bytearray(16)
             out.append('0')

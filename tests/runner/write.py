@@ -172,6 +172,45 @@ PLACED = MAPPED + [
     (rec('T', 15, 0), '0'), (rec('K', 0xFFF2, 2), '0 65534 1'), (rec('X', 0, 0), '0'), (rec('K', 0x9000, 0xFE), '0 0 0'),
     (rec('K', 0xFFFE, 2), '0 254 2'), (rec('Z'), '0'),
 ]
+
+
+def psg(held):
+    """The line of the PSG in which these registers hold these bytes, and the others 0."""
+    return '0 ' + ''.join('%02x' % held.get(n, 0) for n in range(16))
+
+
+# after a reset: the host mutes channels, which play on
+MUTED = MAPPED + [
+    (rec('M', 0x8000, 0x38), '0'), (rec('H', 0x1234, 0x56), psg({})),
+    # numbers of no channel, some with the low byte of one; any value but 0 mutes
+    (rec('Q', 3, 1), '3'), (rec('Q', 4, 0), '3'), (rec('Q', 255, 1), '3'), (rec('Q', 256, 1), '3'), (rec('Q', 257, 0), '3'),
+    (rec('Q', 0x8002, 1), '3'), (rec('Q', 0xFFFF, 0xFF), '3'), (rec('Q', 0, 0x80), '0'),
+    # the list at 8000h on channel 0: its LOAD costs and is told, the PAUSE is as long, and the PSG stays
+    (rec('W', 0x6C01, 0x80), '0'), (rec('W', 0x6C0F, 1), '0'), (rec('L', 0, 2), '0 12 load 1848 - -'), (rec('H'), psg({})),
+    (rec('L'), '0 3 pause 2 - -'), (rec('L'), '0 1 - - -'), (rec('L'), '0 3 control 32 - -'), (rec('L'), '0 1 - - -'),
+    # it is muted still after DCSR, an undo and a start, and no register says so
+    (rec('U'), '0'), (rec('T', 6, 7), '0'), (rec('S'), '0'), (rec('w', 0x6C00, 0), '0'), (rec('w', 0x6C01, 0x80), '0'),
+    (rec('w', 0x6C0F, 1), '0'), (rec('r', 0x6C00), '0 1'), (rec('E'), exported({0x6805: 1, 0x6C01: 0x80})),
+    (rec('L'), '0 10 load 1848 - -'), (rec('H'), psg({})),
+    # heard again, from the next LOAD on
+    (rec('Q', 0, 0), '0'), (rec('H'), psg({})), (rec('w', 0x6C00, 0), '0'), (rec('w', 0x6C01, 0x80), '0'),
+    (rec('L'), '0 10 load 1848 - -'), (rec('H'), psg({7: 0x38})),
+    # RAM changed, and the LOAD of three channels at once: the last that is heard stays
+    (rec('M', 0x8000, 0x39), '0'), (rec('M', 0x8002, 0x3A), '0'), (rec('M', 0x8003, 0x07), '0'), (rec('M', 0x8004, 0x3B), '0'),
+    (rec('M', 0x8005, 0x07), '0'), (rec('w', 0x6C05, 0x80), '0'), (rec('w', 0x6C09, 0x80), '0'), (rec('w', 0x6C0F, 7), '0'),
+] + [
+    order for marks, heard in [(0, 0x3B), (1, 0x3B), (2, 0x3B), (3, 0x3B), (4, 0x3A), (5, 0x3A), (6, 0x39), (0, 0x3B), (7, 0x3B)]
+    for order in [(rec('Q', n, marks >> n & 1), '0') for n in range(3)]
+    + [(rec('w', 0x6C00 + 4 * n, 2 * n), '0') for n in range(3)] + [(rec('w', 0x6C01 + 4 * n, 0x80), '0') for n in range(3)]
+    + [(rec('L'), '0 28 load 1849 load 1850 load 1851'), (rec('H'), psg({7: heard}))]
+] + [
+    # a refused line leaves the PSG, and so does a mute that is refused; a reset ends all mutes
+    (rec('G', 0, 0x83), '0'), (rec('L'), '4 0 - - -'), (rec('Q', 3, 0), '3'), (rec('H'), psg({7: 0x3B})), (rec('Z'), '0'), (rec('H'), psg({})),
+] + MAPPED + [
+    (rec('W', 0x6C0F, 7), '0'), (rec('W', 0x6C00, 0), '0'), (rec('W', 0x6C01, 0x80), '0'), (rec('W', 0x6C05, 0xD0), '0'),
+    (rec('W', 0x6C09, 0xD0), '0'), (rec('L'), '0 28 load 1849 load 0 load 0'), (rec('H'), psg({7: 0x39})),
+    (rec('Q', 2, 1), '0'), (rec('Q', 2, 1), '0'), (rec('Q', 2, 0), '0'), (rec('H'), psg({7: 0x39})), (rec('h'), 'bad'), (rec('q'), 'bad'),
+]
 # the record and the line that answers it
 STORED = [
     # the forecast, and the page before it is mapped
@@ -244,7 +283,7 @@ STORED = [
     # no call, and reset
     (rec('x', 0x1234, 5), 'bad'), (rec('b', 0, 9), 'bad'), (rec('\0'), 'bad'), (rec('e'), 'bad'), (rec('s'), 'bad'), (rec('t'), 'bad'),
     (rec('Z'), '0'), (rec('R', 0x4000, 0x12), '2 0'), (rec('L'), '0 1 - - -'), (rec('U'), '10'), (rec('u'), '10'),
-] + EDITORS + [(rec('Z'), '0')] + PLACED + [
+] + EDITORS + [(rec('Z'), '0')] + PLACED + MUTED + [
     (b'L\0\0', 'short'),
 ]
 
@@ -262,7 +301,7 @@ def stored():
 
 def mixed(seed, count):
     """RAM and records of all calls, over RAM full of words with many a STOP. Now and then a line of 40 characters is shown, and there are
-    more writes in a row than can be undone."""
+    more writes in a row than can be undone. Channels are muted and heard again, and the PSG is shown."""
     r = random.Random(seed)
     words = [r.choice([r.randrange(4096), 0x1000 + r.randrange(4), 0x2000 + r.randrange(4), 0x4001, 0x3000, 0x4010,
                        0x5000 + r.randrange(4096), r.choice([0x4001, 0x4020, 0x4030, 0x4031])]) for _ in range(32768)]
@@ -284,6 +323,11 @@ def mixed(seed, count):
             records += rec('W', 0x6C02 + 4 * n, r.randrange(3)) + rec('W', 0x6C0F, 7) + rec('W', 0x6800, r.randrange(8))
         if r.randrange(400) == 0:
             records += rec('E', a, value)
+        if r.randrange(25) == 0:
+            n = r.choice([0, 1, 2, 0, 1, 2, 3, 255, 256, 257, a])
+            records += rec('Q', n, r.choice([0, 1, value]))
+        if r.randrange(12) == 0:
+            records += rec('H', a, value)
         if r.randrange(200) == 0:
             records += rec('B', 0, 1) + rec('D', 0, 40) + rec('B', 0, 6) + rec('D', 0, 127) + rec('P', a, value)
         if r.randrange(4000) == 0:

@@ -1,8 +1,9 @@
 -- What the runner's orders can ask for: the state that each leaves, and its line of output.
 use mathlib.Core.Path.{_≡_}
+use mathlib.Core.Bool.{not}
 use mathlib.Core.List.{List, []}
 use Prim.Native.Nat.{ℕ, _+_, _*_, _/_, _%_, _≤_}
-use lib.Dec.{ltb}
+use lib.Dec.{eqb, ltb}
 use lib.ListN.{length, getD, set, replicate}
 use Rattle.common.specs.Answers.{done, served}
 use Rattle.common.specs.Choice.{if}
@@ -14,12 +15,12 @@ use Rattle.sound.specs.Line.{accessBy, soundReport}
 use Rattle.chip.specs.Reset.{resetChip}
 use Rattle.draw.specs.Drawing.{entryAt}
 use Rattle.runs.specs.World.{World, worldOf, withChip, roomed}
-use Rattle.runs.specs.Call.{Call, line, start, area, place, Told, nothing, byte, vector, report, placed, outcome, answerTo, worldAfter}
+use Rattle.runs.specs.Call.{Call, line, start, area, place, mute, Told, nothing, byte, vector, report, placed, outcome, answerTo, worldAfter}
 use Rattle.forecast.specs.Rule.{answerOf, linesForecast, cyclesForecast, mostForecast, listOf}
 use Rattle.text.specs.Text.{Appends}
 use Rattle.text.specs.Lines.{oneLine, twoLine, threeLine, stepLine, forecastLine, badLine}
 use Rattle.text.specs.Paint.{paintedLine}
-use Rattle.text.specs.Dump.{exportLine}
+use Rattle.text.specs.Dump.{exportLine, psgLine}
 use Rattle.calls.specs.declared.Machine.{Machine}
 
 -- what a scene hands on from one order to the next: the world, and 16 bytes that wait for a start, an area or a list
@@ -64,8 +65,8 @@ unfoldable pub copied : List ℕ → ℕ → ℕ → List ℕ
 copied ram a n = listed (λ i. getD ram ((a + i) % ramBytes) 0) 0 n
 
 -- a call; a byte of RAM changed by the host; a byte that is to wait at a place; a start with what waits; an area given by what waits; a
--- list placed that stands in RAM from an address on, with the low byte of its length; a reset; the registers exported; a line that is
--- drawn and stepped, and shown; the list at an address forecast with a prescale; or none of these
+-- list placed that stands in RAM from an address on, with the low byte of its length; a reset; the registers exported; the PSG's
+-- registers shown; a line that is drawn and stepped, and shown; the list at an address forecast with a prescale; or none of these
 pub data Act : Type 0 where
   calls : Call → Act
   pokes : ℕ → ℕ → Act
@@ -75,6 +76,7 @@ pub data Act : Type 0 where
   places : ℕ → ℕ → Act
   resets : Act
   exports : Act
+  hears : Act
   shows : Accesses → Act
   foretells : ℕ → ℕ → Act
   unknown : Act
@@ -82,6 +84,10 @@ pub data Act : Type 0 where
 -- what the processor does at the 8255, two bits of the value for each channel: channel n's are bits 2n + 1 and 2n
 abbrev pub accessesIn : ℕ → Accesses
 accessesIn v = record { first = accessBy (v % 4); second = accessBy (v / 4 % 4); third = accessBy (v / 16 % 4) }
+
+-- a channel muted by any value but 0, and heard again by 0
+abbrev pub muteBy : ℕ → ℕ → Call
+muteBy n v = mute n (not (eqb v 0))
 
 -- the line's call, into a line of 640 bytes
 abbrev pub shown : Accesses → Call
@@ -107,6 +113,7 @@ stateBy s gives = called s (areaIn (s .waiting))
 stateBy s (places a low) = called s (placeFrom s a low)
 stateBy s resets = record { world = withChip (s .world) resetChip; waiting = noneWaiting }
 stateBy s exports = s
+stateBy s hears = s
 stateBy s (shows a) = called s (shown a)
 stateBy s (foretells a n) = s
 stateBy s unknown = s
@@ -144,6 +151,7 @@ lineBy s gives = calledLine (s .world) (areaIn (s .waiting))
 lineBy s (places a low) = calledLine (s .world) (placeFrom s a low)
 lineBy s resets = oneLine done
 lineBy s exports = exportLine (s .world .chip)
+lineBy s hears = psgLine (s .world .chip .sound .psg)
 lineBy s (shows a) = shownLine (s .world) a
 lineBy s (foretells a n) = foretoldLine (s .world .lent .ram) a n
 lineBy s unknown = badLine

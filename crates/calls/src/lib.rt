@@ -17,7 +17,7 @@ ghost use Rattle.common.specs.Answers.{done};
 ghost use Rattle.editors.specs.Table.{pick};
 ghost use Rattle.text.specs.Lines.{oneLine, threeLine};
 ghost use Rattle.runs.specs.Call.{bc, bd, gate, read, write, undo, ack, remove};
-ghost use Rattle.calls.specs.Orders.{runningOf, calls, pokes, waits, starts, gives, places, resets, exports, shows, foretells, unknown, accessesIn, shown, numberIn, ownersIn, copied, waitingWith, Does};
+ghost use Rattle.calls.specs.Orders.{runningOf, calls, pokes, waits, starts, gives, places, resets, exports, hears, shows, foretells, unknown, accessesIn, muteBy, shown, numberIn, ownersIn, copied, waitingWith, Does};
 ghost use Rattle.calls.specs.Parts.{Tells};
 
 // The chip, the bytes that wait for a start, an area or a list, and how many bytes of output wait.
@@ -123,6 +123,18 @@ pub fn exported(mut m: Machine, out: &mut [u8]) -> Machine
     ensures { λ r. ⌜ ((ram store song picture slots : List ℕ) → Does (runningOf m ram store song picture slots) exports (runningOf r ram store song picture slots) (now (out .entry)) (m .at) (now (out .exit)) (r .at)) ⌝ }
 {
     m.at = dump::exported(m.chip, out, m.at);
+    m
+}
+
+// The PSG's registers shown.
+pub fn psg_shown(mut m: Machine, out: &mut [u8]) -> Machine
+    requires { ⌜ m .at + 1024 ≤ length (now out) ⌝ }
+    ensures { λ r. ⌜ ((ram store song picture slots : List ℕ) → Does (runningOf m ram store song picture slots) hears (runningOf r ram store song picture slots) (now (out .entry)) (m .at) (now (out .exit)) (r .at)) ⌝ }
+{
+    let chip = m.chip;
+    let sound = chip.sound;
+    let registers = sound.psg;
+    m.at = dump::psg(registers, out, m.at);
     m
 }
 
@@ -321,6 +333,15 @@ pub fn list_removed(m: Machine, slots: &[u32; 64], out: &mut [u8], handle: u8) -
     ensures { λ r. ⌜ ((ram store song picture : List ℕ) → Does (runningOf m ram store song picture (now (slots .entry))) (calls (remove handle)) (runningOf r ram store song picture (now (slots .entry))) (now (out .entry)) (m .at) (now (out .exit)) (r .at)) ⌝ }
 {
     let told = placing::remove(m.chip, slots, handle as u32);
+    answered(m, out, told)
+}
+
+// A channel muted by a value that isn't 0, or heard again.
+pub fn muted(m: Machine, out: &mut [u8], channel: u16, value: u8) -> Machine
+    requires { ⌜ m .at + 1024 ≤ length (now out) ⌝ }
+    ensures { λ r. ⌜ ((ram store song picture slots : List ℕ) → Does (runningOf m ram store song picture slots) (calls (muteBy channel value)) (runningOf r ram store song picture slots) (now (out .entry)) (m .at) (now (out .exit)) (r .at)) ⌝ }
+{
+    let told = chip::mute::mute(m.chip, channel, value != 0);
     answered(m, out, told)
 }
 

@@ -6,4 +6,5 @@ pub mod Reset
 pub mod Ports
 pub mod Channels
 pub mod Interrupts
+pub mod Mute
 pub mod Step

@@ -12,6 +12,7 @@ use sound::Sound;
 
 pub mod acknowledge;
 pub mod line;
+pub mod mute;
 pub mod ports;
 pub mod start;
 pub mod table;

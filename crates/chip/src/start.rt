@@ -60,6 +60,7 @@ fn reset_sound() -> Sound
         count: 0,
         counter: 0,
         mark: 0,
+        muted: false,
     };
     let channels = [channel; 3];
     let psg = [0u8; 16];

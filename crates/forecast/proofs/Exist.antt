@@ -76,6 +76,7 @@ readyChannel start prescale =
       count = 0;
       counter = 0;
       mark = 0;
+      muted = false;
     }
 
 pub ready-chip : (start prescale : ℕ) → (c : Chip) × ((n : ℕ) → n < 3 → Ready start prescale (channel c n)) × (c .gate .mode ≡ 0)

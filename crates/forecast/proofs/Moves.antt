@@ -25,6 +25,7 @@ moved pauses repeats backs interrupts stops n c =
       count = if pauses 0 (c .count);
       counter = if repeats n (if backs (c .counter - 1) (c .counter));
       mark = if repeats (c .address) (c .mark);
+      muted = c .muted;
     }
 
 -- a PAUSE, and a control word by whether it goes back, interrupts and stops

@@ -25,7 +25,7 @@ use Rattle.forecast.proofs.Spares.{effect}
 use Rattle.forecast.proofs.ChannelRun.{ChannelRun, ended as no-more, aside as call-passes, line as line-passes}
 
 -- what a call that steps a line tells
-told-line :
+pub told-line :
     {w v : World} {c : Call} {a : Accesses} {r : Reply} → Makes w c r v → Lines w c a →
     reportIn (r .told) ≡ served (r .answer) (soundReport (w .lent .ram) a (w .chip .sound)) idleReport
 told-line k l = rw (fixed k .reply-is, l .tells)

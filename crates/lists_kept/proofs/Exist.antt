@@ -72,7 +72,7 @@ abbrev playing : Sound
 playing =
     record {
       channels =
-          record { enabled = true; interrupt = false; address = 0; prescale = 0; pause = 0; count = 0; counter = 0; mark = 0 }
+          record { enabled = true; interrupt = false; address = 0; prescale = 0; pause = 0; count = 0; counter = 0; mark = 0; muted = false }
           ∷ offChannel ∷ offChannel ∷ [];
       psg = resetSound .psg;
     }

@@ -14,11 +14,12 @@ use Rattle.lists.proofs.Bounds.{taken-is}
 use Rattle.chip.specs.Editors.{started, listsOf}
 use Rattle.chip.specs.Ports.{selected, dataWritten, gateWritten}
 use Rattle.chip.specs.Interrupts.{acknowledged}
+use Rattle.chip.specs.Mute.{muteSet}
 use Rattle.chip.specs.Step.{stepped, countersStepped}
 use Rattle.page.specs.Page.{pageWritten}
 use Rattle.page.specs.Undo.{undone}
 use Rattle.runs.specs.World.{World, Loan, lentRam, lentStore, lentPlaces, lentSlots}
-use Rattle.runs.specs.Call.{Call, bc, bd, gate, read, write, undo, ack, line, step, start, area, place, remove, lend, servedWorld}
+use Rattle.runs.specs.Call.{Call, bc, bd, gate, read, write, undo, ack, line, step, start, area, place, remove, mute, lend, servedWorld}
 use Rattle.runs.specs.Sort.{listIn}
 
 -- it leaves them all; gives an area; places a list; removes one; or lends another RAM or other places
@@ -39,7 +40,7 @@ loan-view w (lentPlaces e l) = stays refl refl refl refl
 loan-view w (lentSlots l) = lends-slots l
 
 pub room-view : (w : World) (c : Call) → RoomView w c
-unfolding selected dataWritten gateWritten acknowledged pageWritten undone stepped countersStepped started
+unfolding selected dataWritten gateWritten acknowledged pageWritten undone stepped countersStepped started muteSet
 room-view w (bc b) = stays refl refl refl refl
 room-view w (bd b) = stays refl refl refl refl
 room-view w (gate b) = stays refl refl refl refl
@@ -53,6 +54,7 @@ room-view w (start o) = stays refl refl refl refl
 room-view w (area from upto) = gives from upto
 room-view w (place list) = places list
 room-view w (remove handle) = removes handle
+room-view w (mute n on) = stays refl refl refl refl
 room-view w (lend l) = loan-view w l
 
 -- ---- a removal that is served, and one that is refused by 22

@@ -1,5 +1,5 @@
 -- A mended word does what the word did, and so does a line on which it is executed.
-use mathlib.Core.Path.{_≡_, refl, sym}
+use mathlib.Core.Path.{_≡_, refl, sym, ap}
 use mathlib.Core.Bool.{Bool, true, false}
 use mathlib.Core.List.{List}
 use Prim.Native.Nat.{ℕ, _+_, _-_}
@@ -19,7 +19,7 @@ use Rattle.forecast.specs.Played.{Line}
 use Rattle.mended_play.specs.Play.{didInt, SameDeed, SameLine}
 
 pub same-deed : (d : Did) → SameDeed d d
-same-deed d = record { psg = λ registers. refl; int = refl; stop = refl; cycles = λ a. refl }
+same-deed d = record { load = λ registers. refl; int = refl; stop = refl; cycles = λ a. refl }
 
 plain-runs : (c : Channel) → controlled 0 c ≡ c
 unfolding controlled
@@ -47,7 +47,7 @@ module _ (w : ℕ) where
   pub same-word : SameDeed (Executed (kindOf w) (low12 w)) (Executed (kindOf (mended w)) (low12 (mended w)))
   same-word =
       record {
-        psg = λ registers. sym (mended-same w (λ k n. loaded registers (Executed k n)) refl refl refl);
+        load = λ registers. sym (mended-same w (λ k n. loaded registers (Executed k n)) refl refl refl);
         int = sym (mended-same w (λ k n. didInt (Executed k n)) refl refl (control-int l i s));
         stop = sym (mended-same w (λ k n. didStop (Executed k n)) refl refl (control-stop l i s));
         cycles = λ a. sym (mended-same w (λ k n. ownCycles a (Executed k n)) refl refl refl);
@@ -90,6 +90,7 @@ same-line ram other c e = by-active (active (pauseCounted c)) (λ h. rw (counted
         (record {
           before = refl;
           deed = same-word (wordAt ram (pauseCounted c .address));
+          psg = λ registers. ap (if (c .muted) registers) (same-word (wordAt ram (pauseCounted c .address)) .load registers);
           after = rw (same-channel (wordAt ram (pauseCounted c .address)) (fetched (pauseCounted c)));
         })
 
@@ -98,7 +99,7 @@ same-line ram other c e = by-active (active (pauseCounted c)) (λ h. rw (counted
         (didSit ((if b (on ram) sat) .did) ≡ false → wordAt other (pauseCounted c .address) ≡ mended (wordAt ram (pauseCounted c .address))) →
         SameLine (as-line (if b (on ram) sat)) (as-line (if b (on other) sat))
     by-active true h = executes (h refl)
-    by-active false h = record { before = refl; deed = same-deed SatOut; after = refl }
+    by-active false h = record { before = refl; deed = same-deed SatOut; psg = λ registers. refl; after = refl }
 
 -- whether a channel sits out does not depend on RAM
 pub sits-alike : (ram other : List ℕ) (c : Channel) → didSit (didOn other c) ≡ didSit (didOn ram c)

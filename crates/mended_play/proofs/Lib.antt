@@ -8,3 +8,4 @@ pub mod Runs
 pub mod Forecasts
 pub mod Claim
 pub mod Exist
+pub mod Muted

@@ -1,4 +1,4 @@
--- 02, L10: a list as a channel plays it, line by line, and what is the same of two plays.
+-- 02, L10 and L13: a list as a channel plays it, line by line, and what is the same of two plays.
 use mathlib.Core.Path.{_≡_}
 use mathlib.Core.Bool.{Bool, true, false}
 use mathlib.Core.List.{List, [], _∷_}
@@ -9,7 +9,7 @@ use Rattle.sound.specs.declared.Access.{Access}
 use Rattle.sound.specs.declared.Channel.{Channel}
 use Rattle.sound.specs.declared.Did.{Did}
 use Rattle.sound.specs.declared.Did.the-variants.{SatOut, Executed}
-use Rattle.sound.specs.Line.{channelAfter, didOn, loaded, ownCycles}
+use Rattle.sound.specs.Line.{channelAfter, didOn, loaded, heard, ownCycles}
 use Rattle.forecast.specs.Demand.{didStop, didSit}
 use Rattle.forecast.specs.Played.{Line}
 
@@ -18,9 +18,10 @@ abbrev pub playedOn : List (List ℕ) → Channel → List Line
 playedOn [] c = []
 playedOn (ram ∷ rams) c = record { before = c; did = didOn ram c; after = channelAfter ram c } ∷ playedOn rams (channelAfter ram c)
 
--- ---- two lines are the same: the channel before and after it; what the line writes to the PSG, whatever the PSG holds; whether an INT
--- and whether a STOP is executed, also where an interrupt waits already; the channel's own cycles, whatever the processor does. The kind
--- of the word and its low bits may differ: 5ABC is reported as a word that does nothing, 4000 as a control word
+-- ---- two lines are the same: the channel before and after it; what its LOAD sets, and what the PSG gets of it, which of a muted channel
+-- is nothing, whatever the PSG holds; whether an INT and whether a STOP is executed, also where an interrupt waits already; the channel's
+-- own cycles, whatever the processor does. The kind of the word and its low bits may differ: 5ABC is reported as a word that does nothing,
+-- 4000 as a control word
 
 abbrev pub didInt : Did → Bool
 didInt SatOut = false
@@ -31,7 +32,7 @@ didInt (Executed Control n) = intBit n
 didInt (Executed Nothing n) = false
 
 pub record SameDeed (d e : Did) : Type 0 where
-  pub psg : (registers : List ℕ) → loaded registers d ≡ loaded registers e
+  pub load : (registers : List ℕ) → loaded registers d ≡ loaded registers e
   pub int : didInt d ≡ didInt e
   pub stop : didStop d ≡ didStop e
   pub cycles : (a : Access) → ownCycles a d ≡ ownCycles a e
@@ -39,6 +40,7 @@ pub record SameDeed (d e : Did) : Type 0 where
 pub record SameLine (l m : Line) : Type 0 where
   pub before : l .before ≡ m .before
   pub deed : SameDeed (l .did) (m .did)
+  pub psg : (registers : List ℕ) → heard (l .before) registers (l .did) ≡ heard (m .before) registers (m .did)
   pub after : l .after ≡ m .after
 
 -- ---- the word that a line executes is one of so many from a start on. Its address is the channel's before the line; where the channel

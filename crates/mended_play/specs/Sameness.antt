@@ -19,7 +19,8 @@ use Rattle.forecast.specs.Played.{Line, playedIn}
 use Rattle.mended_play.specs.Play.{playedOn, SamePlay, KeepsTo, StopsAfter}
 
 -- ---- a fresh channel: enabled, at the start, with no loop; prescale, mark and interrupt are free, and so are pause and line count, since
--- the lines of a pause that still runs come before both plays alike
+-- the lines of a pause that still runs come before both plays alike. Its mute mark is free too (02, L13), but the same in both plays: of a
+-- muted channel the PSG gets nothing in either, and where one alone is muted it differs (`needs-same-mark`)
 pub record Fresh (start : ℕ) (c : Channel) : Type 0 where
   pub enabled : c .enabled ≡ true
   pub address : c .address ≡ start
@@ -41,8 +42,8 @@ pub record Plays (words mended : List ℕ) (start : ℕ) (old new : List Line) :
   pub keeps : hasStop words ≡ true → Fits mended start → KeepsTo start (length words) old
   pub ends : hasStop words ≡ false → Fits mended start → StopsAfter start (length words) old new
 
--- ---- over runs of calls: what is asked of each call of a run: a served line step is lent RAM that has these words at the start, and a served call between the
--- lines leaves channel n as it is
+-- ---- over runs of calls: a served line step is lent RAM that has these words at the start, and a served call between the lines leaves
+-- channel n as it is, its mute mark with it
 abbrev pub Lends : ℕ → ℕ → List ℕ → Made → Type 0
 Lends n start words e =
     e .reply .answer ≡ done →

@@ -1,6 +1,6 @@
 -- While a table holds, neither editor is felt by the other.
-use mathlib.Core.Path.{_≡_, refl, ap}
-use mathlib.Core.Bool.{true}
+use mathlib.Core.Path.{_≡_, refl, ap, sym, _∙_}
+use mathlib.Core.Bool.{Bool, true}
 use mathlib.Core.List.{List}
 use Prim.Native.Nat.{ℕ}
 use Rattle.common.specs.Choice.{bit}
@@ -14,28 +14,34 @@ use Rattle.lists.specs.Area.{areaOf, areaAnswer}
 use Rattle.lists.specs.Remove.{withoutList}
 use Rattle.lists.proofs.Some.{some}
 use Rattle.sound.specs.declared.Accesses.{Accesses}
+use Rattle.sound.specs.declared.Channel.{Channel as Voice}
+use Rattle.sound.specs.Channels.{withMute}
 use Rattle.chip.specs.Editors.{started}
 use Rattle.chip.specs.Ports.{selected, dataWritten, gateWritten}
 use Rattle.chip.specs.Interrupts.{acknowledged}
+use Rattle.chip.specs.Mute.{muteSet}
 use Rattle.chip.specs.Step.{stepAnswer, stepped, countersStepped}
 use Rattle.draw.specs.Drawing.{drawAnswer}
 use Rattle.line.specs.Contract.{lineAnswer}
 use Rattle.registers.specs.Address.{registerAt}
 use Rattle.contents.specs.Widths.{Widths}
 use Rattle.runs.specs.World.{World, withChip, Loan}
-use Rattle.runs.specs.Call.{Call, bc, bd, gate, read, write, undo, ack, line, step, start, area, place, remove, lend, Reply, answerTo, replyTo, worldAfter}
+use Rattle.runs.specs.Call.{Call, bc, bd, gate, read, write, undo, ack, line, step, start, area, place, remove, mute, lend, Reply, answerTo, replyTo, worldAfter}
 use Rattle.runs.specs.Run.{Made, Makes, Run, ended, on, Each}
 use Rattle.runs.specs.Pair.{Beside, Throughout}
 use Rattle.runs.specs.Pair as pair
 use Rattle.runs.proofs.Calls.{by-answer, fixed}
 use Rattle.runs.proofs.Views.{Lines, drawn-line, stepped-line, view}
 use Rattle.runs.proofs.Within.{call-widths, within}
-use Rattle.runs.proofs.Pairs.{Local, side-by-side}
-use Rattle.noninterference.specs.TwoRuns.{PageCall, reads, writes, undoes, Removal, removes, HostLoan, ram, slots, Fair, Session, SameFor, Stays, Room, Noninterference}
+use Rattle.runs.proofs.Pairs.{Local, side-by-side, both-answer}
+use Rattle.noninterference.specs.TwoRuns.{PageCall, reads, writes, undoes, Removal, removes, HostLoan, ram, slots, Fair, Session, SameFor, Stays, SameMutes, Room, Noninterference}
+use Rattle.noninterference.proofs.Sames.{same-set}
+use Rattle.noninterference.proofs.Blocks.{on-channels}
+use Rattle.noninterference.proofs.Marks.{NoCall, page-leaves, marks-both}
 use Rattle.noninterference.proofs.Puts.{contents-same, read-same}
 use Rattle.noninterference.proofs.Host.{acknowledge-blocks, data-blocks, select-blocks, gate-blocks, step-blocks, start-blocks}
 use Rattle.noninterference.proofs.Records.{Owned, reset-owned, run-owned, own-step, stays-step}
-use Rattle.noninterference.proofs.Sights.{Sight, sight-self, sight-back, sight-on, both-answer, with-editing, read-leaves, others-leave, read-number, write-number, undo-number, write-both, undo-both}
+use Rattle.noninterference.proofs.Sights.{Sight, sight-self, sight-back, sight-on, with-editing, read-leaves, others-leave, read-number, write-number, undo-number, write-both, undo-both}
 
 -- what is known before each call of the two runs
 pub record Known (t : Table) (i : ℕ) (w : World) : Type 0 where
@@ -164,6 +170,22 @@ module _ (t : Table) (i : ℕ) (held : t .held ≡ true) (acknowledges : bit 0 i
         })
         s
 
+    -- a mute mark: the same where the channel is this editor's
+    mute-both : (n : ℕ) (m : Bool) → Sight t e (worldAfter w (mute n m)) (worldAfter v (mute n m))
+    unfolding muteSet
+    mute-both n m =
+        both-answer (Sight t e) w v (mute n m) refl
+        (λ z.
+        record {
+          blocks =
+              on-channels (s .blocks) _ _
+              (same-set n _ _ (s .blocks .channels) (λ own. ap (λ (d : Voice). withMute d m) (s .blocks .channels .each n own)));
+          room = s .room;
+          undo-record = s .undo-record;
+          places = s .places;
+        })
+        s
+
     line-number : (n : ℕ) → lineAnswer (w .chip) (w .lent .ram) (w .lent .store) n ≡ lineAnswer (v .chip) (v .lent .ram) (v .lent .store) n
     unfolding drawAnswer
     line-number n = rw (s .blocks .gate, ap (λ (x : Room). x .ram) (s .room), s .blocks .pixels .size)
@@ -201,6 +223,7 @@ module _ (t : Table) (i : ℕ) (held : t .held ≡ true) (acknowledges : bit 0 i
   call-both w v (area from upto) p q f g s = area-both w v s from upto
   call-both w v (place list) p q f g s = place-both w v s list
   call-both w v (remove handle) p q f g s = remove-both w v s handle (g (removes handle))
+  call-both w v (mute n m) p q f g s = mute-both w v s n m
   call-both w v (lend l) p q f g s = lend-both w v s l (f .hands .lends l refl)
 
   -- ---- the editor's replies
@@ -249,6 +272,16 @@ module _ (t : Table) (i : ℕ) (held : t .held ≡ true) (acknowledges : bit 0 i
   all-stay ended f k = tt
   all-stay (on m rest) f k = let n = known-step m (f .0) k in (n .stays, all-stay rest (f .1) n)
 
+-- the mute marks of both runs
+marks : (t : Table) (i : ℕ) (e : Editor) → Local (Asked t i e) SameMutes (PageCall (other e)) Removal NoCall
+marks t i e =
+    record {
+      theirs-first = λ w v c x a s n h. sym (page-leaves w c x n h) ∙ s n h;
+      theirs-second = λ w v c x a s n h. s n h ∙ page-leaves v c x n h;
+      on-both = λ w v c a b g s. marks-both w v c (a .known .widths .three) (b .known .widths .three) s;
+      replies = λ w v c x a b s. absurd x;
+    }
+
 -- what the editor can tell by its sight
 told-by : {t : Table} {e : Editor} → t .held ≡ true → (w v : World) → Sight t e w v → SameFor t e w v
 unfolding recordOf
@@ -291,6 +324,7 @@ noninterference t =
             replies = a .same;
             throughout = common-throughout (told-by (s .held)) w w b (a .views);
             room = common-throughout (λ v u x. x .room) w w b (a .views);
+            mutes = side-by-side (marks t i e) b m n p q j (λ n h. refl) .views;
             first-stays = all-stay t i (s .held) (s .ivr) e m f k;
             second-stays = all-stay t i (s .held) (s .ivr) e n g k;
           };

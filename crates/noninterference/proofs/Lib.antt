@@ -5,6 +5,7 @@ pub mod Puts
 pub mod Host
 pub mod Records
 pub mod Sights
+pub mod Marks
 pub mod Claim
 pub mod Exist
 pub mod Needed

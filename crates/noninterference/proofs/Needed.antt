@@ -277,10 +277,10 @@ raises = write Song 0x6805 0 ∷ write Song 0x6c0f 5 ∷ line off 640 ∷ start 
 
 -- a channel that is enabled, and after its INT
 abbrev playing : Voice
-playing = record { enabled = true; interrupt = false; address = 0; prescale = 0; pause = 0; count = 0; counter = 0; mark = 0 }
+playing = record { enabled = true; interrupt = false; address = 0; prescale = 0; pause = 0; count = 0; counter = 0; mark = 0; muted = false }
 
 abbrev waits : Voice
-waits = record { enabled = true; interrupt = true; address = 2; prescale = 0; pause = 0; count = 0; counter = 0; mark = 0 }
+waits = record { enabled = true; interrupt = true; address = 2; prescale = 0; pause = 0; count = 0; counter = 0; mark = 0; muted = false }
 
 abbrev firstAndLast : Voice → Sound
 firstAndLast d = record { channels = d ∷ offChannel ∷ d ∷ []; psg = replicate 16 0 }

@@ -46,6 +46,7 @@ use Rattle.runs.proofs.Opens.{differ, mappedChip}
 use Rattle.runs.proofs.Calls.{placed-world}
 use Rattle.noninterference.specs.TwoRuns.{reads, writes, Removal, Fair, Session}
 use Rattle.noninterference.proofs.Exist.{theirs-fair}
+use Rattle.noninterference.proofs.Marks.{NoCall}
 use Rattle.noninterference.proofs.Needed.{Claims, claimed, Lent, two-runs, shows, other-bytes, held, session, lastPicture, off, asks, asks-dcsr, buffers, lent}
 
 -- an area of two words, from 0 on, and two lists of one word: a STOP, and a word that does nothing
@@ -68,7 +69,7 @@ roomy l a ram slots s =
 
 -- channels 0 and 2 enabled or not, at address 0
 abbrev on : Voice
-on = record { enabled = true; interrupt = false; address = 0; prescale = 0; pause = 0; count = 0; counter = 0; mark = 0 }
+on = record { enabled = true; interrupt = false; address = 0; prescale = 0; pause = 0; count = 0; counter = 0; mark = 0; muted = false }
 
 abbrev sounds : Voice → Voice → Sound
 sounds d e = record { channels = d ∷ offChannel ∷ e ∷ []; psg = resetSound .psg }
@@ -289,10 +290,7 @@ last-fair =
     (remove-fair t, (place-fair t 0 0x40 (omega arith) (omega arith), (write-fair t, (line-fair t, (asks-fair, tt)))))
 
 -- nothing is given of the removals' answers
-abbrev pub Nothing : Call → Type 0
-Nothing c = ⊥
-
-removals-break : (l : Buffers) → Lent l → Claims Session Fair Nothing (holding lastPicture) → ⊥
+removals-break : (l : Buffers) → Lent l → Claims Session Fair NoCall (holding lastPicture) → ⊥
 removals-break l s claim =
     let t = holding lastPicture in
     let lists = place-fair t 0x20 0x40 (omega arith) (omega arith) in
@@ -306,5 +304,5 @@ removals-break l s claim =
     other-bytes 0 1 (λ q. omega arith) (sym (reads-stop l s) ∙ u .replies .1 .1 .1 .1 .1 .1 .0 (reads 0x6c0f 0) ∙ reads-on l s)
 
 -- with that the claim holds for every table, without it it fails for one
-pub needs-removals : ((t : Table) → Claims Session Fair Removal t) × (Claims Session Fair Nothing (holding lastPicture) → ⊥)
+pub needs-removals : ((t : Table) → Claims Session Fair Removal t) × (Claims Session Fair NoCall (holding lastPicture) → ⊥)
 needs-removals = (claimed, removals-break buffers lent)

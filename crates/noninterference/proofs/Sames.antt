@@ -1,11 +1,12 @@
 -- Two lists that are the same where it counts.
-use mathlib.Core.Path.{_≡_, refl, ap, sym, _∙_}
+use mathlib.Core.Path.{_≡_, refl, sym, _∙_}
 use mathlib.Core.Bool.{Bool, true, false}
-use mathlib.Core.List.{List, [], _∷_}
-use Prim.Native.Nat.{ℕ, zero, suc}
+use mathlib.Core.List.{List}
+use Prim.Native.Nat.{ℕ}
 use native.Mathlib.Omega.{arith}
 use lib.ListN.{length, getD, set, length-set}
 use lib.Seq.{getD-set-other}
+use Rattle.runs.proofs.Pairs.{both-set}
 
 pub record Same {A : Type 0} (own : ℕ → Bool) (d : A) (l m : List A) : Type 0 where
   pub size : length l ≡ length m
@@ -33,20 +34,10 @@ module _ {A : Type 0} {own : ℕ → Bool} {d : A} where
       }
 
 -- the same place set
-set-each : {A : Type 0} (l m : List A) (n k : ℕ) (y z d : A) → length l ≡ length m → getD l k d ≡ getD m k d → (k ≡ n → y ≡ z) →
-    getD (set l n y) k d ≡ getD (set m n z) k d
-set-each [] [] n k y z d s e h = refl
-set-each [] (b ∷ m) n k y z d s e h = absurd (omega arith)
-set-each (a ∷ l) [] n k y z d s e h = absurd (omega arith)
-set-each (a ∷ l) (b ∷ m) zero zero y z d s e h = h refl
-set-each (a ∷ l) (b ∷ m) zero (suc k) y z d s e h = e
-set-each (a ∷ l) (b ∷ m) (suc n) zero y z d s e h = e
-set-each (a ∷ l) (b ∷ m) (suc n) (suc k) y z d s e h = set-each l m n k y z d (omega arith) e (λ q. h (ap suc q))
-
 pub same-set : {A : Type 0} {own : ℕ → Bool} {d : A} {l m : List A} (n : ℕ) (y z : A) → Same own d l m → (own n ≡ true → y ≡ z) →
     Same own d (set l n y) (set m n z)
 same-set {l = l} {m = m} n y z s h =
     record {
       size = length-set l n y ∙ s .size ∙ sym (length-set m n z);
-      each = λ k o. set-each l m n k y z _ (s .size) (s .each k o) (λ e. h (rw e at o));
+      each = λ k o. both-set (λ x w. x ≡ w) l m n k y z _ (s .size) (s .each k o) (λ e. h (rw e at o));
     }

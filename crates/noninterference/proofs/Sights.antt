@@ -3,8 +3,6 @@ use mathlib.Core.Path.{_≡_, refl, ap, sym, _∙_}
 use mathlib.Core.Bool.{Bool, true, false}
 use mathlib.Core.List.{List}
 use Prim.Native.Nat.{ℕ, _%_}
-use borrow.Author.Tests.{eqb-true}
-use lib.Dec.{eqb}
 use lib.ListN.{length, set}
 use Rattle.common.specs.Answers.{done}
 use Rattle.common.specs.Choice.{if}
@@ -24,11 +22,11 @@ use Rattle.page.specs.UndoRecord.{isKept, entryWith, entryAt, entryRegister, en
 use Rattle.page.specs.Page.{pageAnswer, readAnswer, writeAnswer, pageWritten, placesAfter}
 use Rattle.page.specs.Undo.{undoAnswer, undone}
 use Rattle.runs.specs.World.{World, placesOf}
-use Rattle.runs.specs.Call.{Call, read, write, undo, answerTo, servedWorld, worldAfter}
+use Rattle.runs.specs.Call.{Call, read, write, undo, worldAfter}
 use Rattle.runs.proofs.Calls.{by-answer, edited-places, other-places}
 use Rattle.runs.proofs.Views.{newestOf}
+use Rattle.runs.proofs.Pairs.{both-answer}
 use Rattle.noninterference.specs.TwoRuns.{PageCall, reads, writes, undoes, roomOf, Stays}
-use Rattle.noninterference.proofs.Sames.{clash}
 use Rattle.noninterference.proofs.Blocks.{Blocks, blocks-self, blocks-back, blocks-on, blocks-as}
 use Rattle.noninterference.proofs.Puts.{put-same, put-other, contents-same}
 use Rattle.noninterference.proofs.Records.{Owned, may-own, newest-may, written-may, own-as}
@@ -60,18 +58,6 @@ module _ {t : Table} {e : Editor} where
         undo-record = s .undo-record ∙ r .undo-record;
         places = s .places ∙ r .places;
       }
-
--- a call with the same answer on both
-pub both-answer :
-    (P : World → World → Type 0) (w v : World) (c : Call) → answerTo w c ≡ answerTo v c →
-    (answerTo w c ≡ done → P (servedWorld w c) (servedWorld v c)) → P w v → P (worldAfter w c) (worldAfter v c)
-both-answer P w v c same f g = go (eqb (answerTo w c) done) (eqb (answerTo v c) done) refl (ap (λ n. eqb n done) same)
-  where
-    go : (i j : Bool) → eqb (answerTo w c) done ≡ i → eqb (answerTo w c) done ≡ j → P (if i (servedWorld w c) w) (if j (servedWorld v c) v)
-    go true true h k = f (eqb-true _ _ h)
-    go true false h k = clash h k
-    go false true h k = clash k h
-    go false false h k = g
 
 -- other records and tables are no block
 pub with-editing :

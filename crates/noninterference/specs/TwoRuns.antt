@@ -1,8 +1,8 @@
--- 02, L9 and L12: while a table holds, what one editor does is not felt by the other. One claim over two runs of calls.
+-- 02, L9, L12 and L13: while a table holds, what one editor does is not felt by the other. One claim over two runs of calls.
 use mathlib.Core.Path.{_≡_}
 use mathlib.Core.Bool.{Bool, true}
 use mathlib.Core.List.{List}
-use Prim.Native.Nat.{ℕ}
+use Prim.Native.Nat.{ℕ, _<_}
 use Rattle.common.specs.Choice.{either, bit}
 use Rattle.editors.specs.declared.Editor.{Editor}
 use Rattle.editors.specs.declared.Owners.{Owners}
@@ -16,7 +16,7 @@ use Rattle.chip.specs.Editors.{listsOf}
 use Rattle.contents.specs.Contents.{contents}
 use Rattle.contents.specs.Shown.{showsDcsr}
 use Rattle.page.specs.UndoRecord.{recordIn}
-use Rattle.runs.specs.World.{World, placesOf, Loan, lentRam, lentSlots}
+use Rattle.runs.specs.World.{World, placesOf, mutedOf, Loan, lentRam, lentSlots}
 use Rattle.runs.specs.Call.{Call, read, write, undo, start, remove, lend, Typed}
 use Rattle.runs.specs.Run.{Made, Run, Each}
 use Rattle.runs.specs.Reached.{Reached}
@@ -88,12 +88,17 @@ pub record Room : Type 0 where
 abbrev pub roomOf : World → Room
 roomOf w = record { lists = listsOf (w .chip); slots = w .lent .slots; ram = w .lent .ram }
 
+-- the mute marks of all three channels
+abbrev pub SameMutes : World → World → Type 0
+SameMutes w v = (n : ℕ) → n < 3 → mutedOf w n ≡ mutedOf v n
+
 -- of two runs from one world, whose calls are the same but for the other editor's: this editor gets the same replies, call by call, and
--- all that it can tell is the same after every call, RAM and the placed lists with it
+-- all that it can tell is the same after every call, RAM and the placed lists with it, and every channel's mute mark
 pub record Unaffected (t : Table) (e : Editor) (w : World) {es fs : List Made} (b : Beside (PageCall (other e)) es fs) : Type 0 where
   pub replies : SameReplies (PageCall e) b
   pub throughout : Throughout (SameFor t e) w w b
   pub room : Throughout (λ v u. roomOf v ≡ roomOf u) w w b
+  pub mutes : Throughout SameMutes w w b
   pub first-stays : Each (λ m. Stays t (w .chip .interrupts .ivr) (m .after)) es
   pub second-stays : Each (λ m. Stays t (w .chip .interrupts .ivr) (m .after)) fs
 

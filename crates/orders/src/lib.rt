@@ -52,6 +52,8 @@ pub fn serve(
         b'N' => calls::area_given(m, out),
         b'K' => calls::list_placed(m, ram, slots, out, address, value),
         b'X' => calls::list_removed(m, slots, out, value),
+        b'Q' => calls::muted(m, out, address, value),
+        b'H' => calls::psg_shown(m, out),
         b'Z' => calls::reset(m, out),
         _ => calls::not_known(m, out),
     }

@@ -38,6 +38,7 @@ ghost use Rattle.replay.specs.Contract.{Replays};
 ghost use Rattle.plus.specs.Report.{accessesBy, kindNumber, lowOf, kindsOf, lowsOf};
 ghost use Rattle.plus.specs.Promises.{LineTold, LengthTold};
 ghost use Rattle.plus.specs.Undo.{UndoTold};
+ghost use Rattle.plus.specs.Mute.{MuteTold};
 ghost use Rattle.plus.specs.Start.{StartTold};
 ghost use Rattle.plus.specs.Mend.{MendTold};
 ghost use Rattle.plus.specs.Lists.{PlaceTold, RemoveTold};
@@ -77,8 +78,8 @@ pub extern "C" fn plus_built() -> PlusBuilt
     ensures { λ r. ⌜ Built r ⌝ }
 {
     PlusBuilt {
-        version: 1300,
-        state: 272,
+        version: 1400,
+        state: 280,
     }
 }
 
@@ -177,6 +178,14 @@ pub extern "C" fn plus_area(chip: Chip, from: u32, upto: u32) -> Answered
     ensures { λ r. ⌜ GivesArea chip from upto r ⌝ }
 {
     placing::area(chip, from, upto)
+}
+
+// Mutes a channel, whose LOADs then leave the PSG, or has it heard again.
+#[no_mangle]
+pub extern "C" fn plus_mute(chip: Chip, channel: u16, on: bool) -> Answered
+    ensures { λ r. ⌜ MuteTold chip channel on r ⌝ }
+{
+    chip::mute::mute(chip, channel, on)
 }
 
 // Places a list in the area, with the places of the lists lent, and copies it into RAM.

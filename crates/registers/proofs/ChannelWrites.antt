@@ -31,9 +31,11 @@ dcsr-channel t e cs b (suc zero) h = refl
 dcsr-channel t e cs b (suc (suc zero)) h = refl
 dcsr-channel t e cs b (suc (suc (suc n))) h = absurd (omega arith)
 
--- a channel with other flags, address and prescale
-kept : (d : Channel) {enabled interrupt : Bool} {address prescale : ℕ} →
-    Keeps d
+-- what holds of a channel and any other with the same pause, line count, loop counter, mark and mute mark holds over every page write
+module _ (P : Channel → Channel → Type 0)
+    (same :
+    (d : Channel) (enabled interrupt : Bool) (address prescale : ℕ) →
+    P d
     (record {
       enabled = enabled;
       interrupt = interrupt;
@@ -43,43 +45,50 @@ kept : (d : Channel) {enabled interrupt : Bool} {address prescale : ℕ} →
       count = d .count;
       counter = d .counter;
       mark = d .mark;
-    })
-kept d = record { pause = refl; count = refl; counter = refl; mark = refl }
+      muted = d .muted;
+    })) where
+  by-register : (d : Channel) (r : ChannelRegister) (b : ℕ) → P d (channelWritten d r b)
+  by-register d StartLow b = same d _ _ _ _
+  by-register d StartHigh b = same d _ _ _ _
+  by-register d Prescale b = same d _ _ _ _
 
-written-keeps : (d : Channel) (r : ChannelRegister) (b : ℕ) → Keeps d (channelWritten d r b)
-written-keeps d StartLow b = kept d
-written-keeps d StartHigh b = kept d
-written-keeps d Prescale b = kept d
+  -- a channel's flags are written, or it stays
+  by-control : (own : Bool) (b n : ℕ) (d : Channel) → P d (if own (controlWritten b n d) d)
+  by-control true b n d = same d _ _ _ _
+  by-control false b n d = same d _ _ _ _
 
--- a channel's flags are written, or it stays
-control-keeps : (own : Bool) (b n : ℕ) (d : Channel) → Keeps d (if own (controlWritten b n d) d)
-control-keeps true b n d = kept d
-control-keeps false b n d = kept d
+  by-page : (c : Chip) (e : Editor) (x : Register) (b n : ℕ) → n < 3 →
+      P (channelOf (c .sound .channels) n) (channelOf (registerWritten c e x b .sound .channels) n)
+  by-page c e (Pixel i) b n h = same (channelOf (c .sound .channels) n) _ _ _ _
+  by-page c e (Sprite k p) b n h = same (channelOf (c .sound .channels) n) _ _ _ _
+  by-page c e (Palette i) b n h = same (channelOf (c .sound .channels) n) _ _ _ _
+  by-page c e (Video v) b n h = same (channelOf (c .sound .channels) n) _ _ _ _
+  by-page c e Ivr b n h = same (channelOf (c .sound .channels) n) _ _ _ _
+  by-page c e Converter b n h = same (channelOf (c .sound .channels) n) _ _ _ _
+  by-page c e (ChannelAt m r) b n h =
+      let cs = c .sound .channels in
+      after-set (λ d. P (channelOf cs n) d) cs m n (channelWritten (channelOf cs m) r b) offChannel (same (channelOf cs n) _ _ _ _)
+      (λ q. rw q (by-register (channelOf cs m) r b))
+  by-page c e Dcsr b n h =
+      rw (dcsr-channel (c .editing .table) e (c .sound .channels) b n h)
+      (by-control (ownsChannel (c .editing .table) e n) b n (channelOf (c .sound .channels) n))
+  by-page c e Status b n h = same (channelOf (c .sound .channels) n) _ _ _ _
+  by-page c e Empty b n h = same (channelOf (c .sound .channels) n) _ _ _ _
+
+-- no page write moves a channel's pause, line count, loop counter or mark
+pub page-leaves : (c : Chip) (e : Editor) (x : Register) (b n : ℕ) → n < 3 →
+    Keeps (channelOf (c .sound .channels) n) (channelOf (registerWritten c e x b .sound .channels) n)
+page-leaves = by-page Keeps (λ d i j k l. record { pause = refl; count = refl; counter = refl; mark = refl })
+
+-- nor its mute mark
+pub page-mutes : (c : Chip) (e : Editor) (x : Register) (b n : ℕ) → n < 3 →
+    channelOf (registerWritten c e x b .sound .channels) n .muted ≡ channelOf (c .sound .channels) n .muted
+page-mutes = by-page (λ d e. e .muted ≡ d .muted) (λ d i j k l. refl)
 
 control-alone : (own : Bool) (b n : ℕ) (d : Channel) → (own ≡ true → d .enabled ≡ true → bit n b ≡ true) →
     LeftAlone d (if own (controlWritten b n d) d)
 control-alone true b n d set = record { address = refl; prescale = refl; enabled = set refl }
 control-alone false b n d set = alone-self d
-
--- no page write moves a channel's pause, line count, loop counter or mark
-pub page-leaves : (c : Chip) (e : Editor) (x : Register) (b n : ℕ) → n < 3 →
-    Keeps (channelOf (c .sound .channels) n) (channelOf (registerWritten c e x b .sound .channels) n)
-page-leaves c e (Pixel i) b n h = kept (channelOf (c .sound .channels) n)
-page-leaves c e (Sprite k p) b n h = kept (channelOf (c .sound .channels) n)
-page-leaves c e (Palette i) b n h = kept (channelOf (c .sound .channels) n)
-page-leaves c e (Video v) b n h = kept (channelOf (c .sound .channels) n)
-page-leaves c e Ivr b n h = kept (channelOf (c .sound .channels) n)
-page-leaves c e Converter b n h = kept (channelOf (c .sound .channels) n)
-page-leaves c e (ChannelAt m r) b n h =
-    let cs = c .sound .channels in
-    after-set (λ d. Keeps (channelOf cs n) d) cs m n (channelWritten (channelOf cs m) r b) offChannel
-    (kept (channelOf cs n))
-    (λ q. rw q (written-keeps (channelOf cs m) r b))
-page-leaves c e Dcsr b n h =
-    rw (dcsr-channel (c .editing .table) e (c .sound .channels) b n h)
-    (control-keeps (ownsChannel (c .editing .table) e n) b n (channelOf (c .sound .channels) n))
-page-leaves c e Status b n h = kept (channelOf (c .sound .channels) n)
-page-leaves c e Empty b n h = kept (channelOf (c .sound .channels) n)
 
 -- a write to a register that is not channel n's, and not DCSR by its owner with bit n clear while it is enabled, leaves its address,
 -- prescale and a set enable

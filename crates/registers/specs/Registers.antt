@@ -105,6 +105,7 @@ channelWritten d Prescale b =
       count = d .count;
       counter = d .counter;
       mark = d .mark;
+      muted = d .muted;
     }
 
 abbrev pub channelsWritten : List Channel → ℕ → ChannelRegister → ℕ → List Channel

@@ -13,6 +13,7 @@ use Rattle.chip.specs.declared.Answered.{Answered}
 use Rattle.chip.specs.Editors.{started}
 use Rattle.chip.specs.Ports.{selected, dataWritten, gateWritten}
 use Rattle.chip.specs.Interrupts.{acknowledged}
+use Rattle.chip.specs.Mute.{muteSet}
 use Rattle.page.specs.Page.{pageWritten}
 use Rattle.page.specs.Undo.{undone}
 use Rattle.runs.specs.World.{worldOf}
@@ -24,14 +25,15 @@ use Rattle.replay.specs.Replay.{callBy}
 use Rattle.replay.specs.Parts.{Calls}
 use Rattle.replay.proofs.Slots.{Unseen}
 
--- a kind that is none of 1 to 9
+-- a kind that is none of 1 to 10
 abbrev pub Other : ℕ → Type 0
 Other k =
-    ((((((((Unit {0} × (k ≢ 1)) × (k ≢ 2)) × (k ≢ 3)) × (k ≢ 4)) × (k ≢ 5)) × (k ≢ 6)) × (k ≢ 7)) × (k ≢ 8)) × (k ≢ 9)
+    (((((((((Unit {0} × (k ≢ 1)) × (k ≢ 2)) × (k ≢ 3)) × (k ≢ 4)) × (k ≢ 5)) × (k ≢ 6)) × (k ≢ 7)) × (k ≢ 8)) × (k ≢ 9)) × (k ≢ 10)
 
 pub asks-none : (o : Owners) (r : Record) → Other (r .kind) → callBy o r ≡ []
 asks-none o r h =
     rw (
+      ne-eqb _ _ (h .0 .0 .0 .0 .0 .0 .0 .0 .0 .1),
       ne-eqb _ _ (h .0 .0 .0 .0 .0 .0 .0 .0 .1),
       ne-eqb _ _ (h .0 .0 .0 .0 .0 .0 .0 .1),
       ne-eqb _ _ (h .0 .0 .0 .0 .0 .0 .1),
@@ -53,7 +55,7 @@ either-few true cs ds h i = h
 either-few false cs ds h i = i
 
 pub few : (o : Owners) (r : Record) → Few (callBy o r)
-unfolding selected dataWritten gateWritten acknowledged pageWritten undone started
+unfolding selected dataWritten gateWritten acknowledged pageWritten undone started muteSet
 few o r =
     either-few (eqb (r .kind) 1) _ _ (one refl tt (record { reply = λ s w. refl; next = λ s w. refl; area = λ w. refl }))
     (either-few (eqb (r .kind) 2) _ _ (one refl tt (record { reply = λ s w. refl; next = λ s w. refl; area = λ w. refl }))
@@ -62,7 +64,9 @@ few o r =
     (either-few (eqb (r .kind) 5) _ _ (one refl tt (record { reply = λ s w. refl; next = λ s w. refl; area = λ w. refl }))
     (either-few (eqb (r .kind) 6) _ _ (one refl tt (record { reply = λ s w. refl; next = λ s w. refl; area = λ w. refl }))
     (either-few (eqb (r .kind) 7) _ _ (one refl tt (record { reply = λ s w. refl; next = λ s w. refl; area = λ w. refl }))
-    (either-few (eqb (r .kind) 8) _ _ (one refl tt (record { reply = λ s w. refl; next = λ s w. refl; area = λ w. refl })) (either-few (eqb (r .kind) 9) _ _ (one refl tt (record { reply = λ s w. refl; next = λ s w. refl; area = λ w. refl })) none))))))))
+    (either-few (eqb (r .kind) 8) _ _ (one refl tt (record { reply = λ s w. refl; next = λ s w. refl; area = λ w. refl }))
+    (either-few (eqb (r .kind) 9) _ _ (one refl tt (record { reply = λ s w. refl; next = λ s w. refl; area = λ w. refl }))
+    (either-few (eqb (r .kind) 10) _ _ (one refl tt (record { reply = λ s w. refl; next = λ s w. refl; area = λ w. refl })) none)))))))))
 
 -- a call that does what is asked
 pub by-ask :

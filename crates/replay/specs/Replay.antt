@@ -1,4 +1,4 @@
--- Requests L8 and L9: a take played from reset: the calls that its records are, and what they come to.
+-- Requests L8, L9 and L13: a take played from reset: the calls that its records are, and what they come to.
 use mathlib.Core.List.{List, [], _∷_, _++_}
 use Prim.Native.Nat.{ℕ, zero, suc, _+_, _-_}
 use lib.Dec.{eqb}
@@ -12,12 +12,13 @@ use Rattle.sound.specs.declared.Accesses.{Accesses}
 use Rattle.chip.specs.Reset.{resetChip}
 use Rattle.take.specs.declared.Record.{Record}
 use Rattle.runs.specs.World.{World, worldOf}
-use Rattle.runs.specs.Call.{Call, bc, bd, gate, write, undo, ack, step, start}
+use Rattle.runs.specs.Call.{Call, bc, bd, gate, write, undo, ack, step, start, mute}
 use Rattle.runs.specs.Sort.{onLine}
 use Rattle.runs.specs.Run.{Made, madeOver, worldOver}
 
 -- the call of a record by its kind: 1 to 3 write to BCxx, BDxx and 7Fxx; by 4 the song editor writes to the page and by 6 it takes a
--- write back, by 7 and 8 the picture editor does; 5 acknowledges; 9 starts, with the owners that are lent. No other kind is a call
+-- write back, by 7 and 8 the picture editor does; 5 acknowledges; 9 starts, with the owners that are lent; 10 mutes the channel of its
+-- address by value 1, and by another has it heard. No other kind is a call
 abbrev pub callBy : Owners → Record → List Call
 callBy o r =
     if (eqb (r .kind) 1) (bc (r .value) ∷ [])
@@ -28,7 +29,8 @@ callBy o r =
     (if (eqb (r .kind) 6) (undo Song ∷ [])
     (if (eqb (r .kind) 7) (write Picture (r .address) (r .value) ∷ [])
     (if (eqb (r .kind) 8) (undo Picture ∷ [])
-    (if (eqb (r .kind) 9) (start o ∷ []) []))))))))
+    (if (eqb (r .kind) 9) (start o ∷ [])
+    (if (eqb (r .kind) 10) (mute (r .address) (eqb (r .value) 1) ∷ []) [])))))))))
 
 -- a line step with the processor off the 8255 for each channel; so many of them before other calls. It is the core's, which draws nothing:
 -- a replay has no line to draw into, and steps in mode 3 too, where the line's call is refused

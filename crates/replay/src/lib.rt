@@ -120,6 +120,7 @@ fn called(
         7 => page::page_write(chip, Editor::Picture, store, picture, entry.address, value),
         8 => page::undo(chip, Editor::Picture, store, picture),
         9 => chip::table::start(chip, owners),
+        10 => chip::mute::mute(chip, entry.address, value == 1),
         _ => no_call(chip),
     }
 }

@@ -25,6 +25,7 @@ use Rattle.chip.specs.Contracts.{Answers}
 use Rattle.chip.specs.Editors.{listsOf, withLists}
 use Rattle.chip.specs.Ports.{selected, Selects, dataAnswer, dataWritten, gateAnswer, gateWritten}
 use Rattle.chip.specs.Interrupts.{acknowledged}
+use Rattle.chip.specs.Mute.{muteAnswer, muteSet}
 use Rattle.chip.specs.Step.{stepAnswer, stepped}
 use Rattle.line.proofs.Possible.{steps-by, line-possible}
 use Rattle.registers.specs.Address.{registerAt}
@@ -33,7 +34,7 @@ use Rattle.page.specs.Page.{pageWritten, placesAfter, Writes}
 use Rattle.page.specs.Undo.{newest, undone, storeUndone, Undoes}
 use Rattle.page.proofs.Ways.{write-possible, undo-possible}
 use Rattle.runs.specs.World.{World, placesOf, withChip, edited, roomed}
-use Rattle.runs.specs.Call.{Call, bc, bd, gate, read, write, undo, ack, line, step, start, area, place, remove, lend, placed, Reply, answerTo, servedWorld, replyTo, worldAfter}
+use Rattle.runs.specs.Call.{Call, bc, bd, gate, read, write, undo, ack, line, step, start, area, place, remove, mute, lend, placed, Reply, answerTo, servedWorld, replyTo, worldAfter}
 use Rattle.runs.specs.Run as run
 use Rattle.runs.specs.Run.{Makes}
 
@@ -157,6 +158,8 @@ fixed {w} (run.remove κs slots handle r s l) =
       world-is =
           rw (l .chip, s) (chip-served (answerTo w (remove handle)) w (withLists (w .chip) (withoutList (listsOf (w .chip)) handle)));
     }
+fixed {w} (run.mute n on r l) =
+    record { reply-is = rw (l .answer); world-is = rw (l .chip) (chip-served (muteAnswer n) w (muteSet (w .chip) n on)) }
 fixed {w} (run.lend l) = record { reply-is = refl; world-is = refl }
 
 -- so its answer, and the world after it where it is served and where it is refused
@@ -294,6 +297,7 @@ way w (place list) h =
     }
 way w (remove handle) h =
     record { reply = _; after = _; made = run.remove lifetime (lending (w .lent .slots)) handle _ refl (answers _ _ (w .chip)) }
+way w (mute n on) h = record { reply = _; after = _; made = run.mute n on _ (answers _ _ (w .chip)) }
 way w (lend l) h = record { reply = _; after = _; made = run.lend l }
 
 pub possible : (w : World) (c : Call) → AllPlaces w → Makes w c (replyTo w c) (worldAfter w c)

@@ -14,10 +14,11 @@ use Rattle.words.specs.declared.WordKind.the-variants.{Load, Pause, Repeat, Con
 use Rattle.sound.specs.declared.Channel.{Channel}
 use Rattle.sound.specs.declared.Sound.{Sound}
 use Rattle.sound.specs.declared.Did.the-variants.{SatOut}
-use Rattle.sound.specs.Channels.{wordAt, withPause, withAddress, withLoop, withFlags, pauseCounted, active, fetched, looped, interrupted, controlled, executed, turnOf, wordPlayed}
+use Rattle.sound.specs.Channels.{wordAt, withPause, withAddress, withLoop, withFlags, withMute, pauseCounted, active, fetched, looped, interrupted, controlled, executed, turnOf, wordPlayed}
 use Rattle.sound.specs.Line.{offChannel, channelOf, channelAfter, channelsAfter, soundAfter}
 use Rattle.chip.specs.declared.Chip.{Chip}
 use Rattle.chip.specs.Interrupts.{ofRaster, channelFor, sourceOn, cleared, withCleared, interruptsServed, soundServed, acknowledged}
+use Rattle.chip.specs.Mute.{channelsMuted, muteSet}
 use Rattle.chip.specs.State.{withSound, withInterrupts}
 use Rattle.chip.specs.Step.{stepped as steppedChip, countersStepped}
 use Rattle.contents.specs.Widths.{ChannelWidths, Widths}
@@ -30,8 +31,8 @@ by : (t : Bool) (c d : Channel) → ChannelWidths c → ChannelWidths d → Chan
 by true c d f g = f
 by false c d f g = g
 
--- with other flags, pause, count and counter
-same : (c : Channel) {enabled interrupt : Bool} {pause count counter : ℕ} → ChannelWidths c →
+-- with other flags, pause, count, counter and mute mark
+same : (c : Channel) {enabled interrupt muted : Bool} {pause count counter : ℕ} → ChannelWidths c →
     ChannelWidths
     (record {
       enabled = enabled;
@@ -42,6 +43,7 @@ same : (c : Channel) {enabled interrupt : Bool} {pause count counter : ℕ} → 
       count = count;
       counter = counter;
       mark = c .mark;
+      muted = muted;
     })
 same c h = record { even = h .even; even-mark = h .even-mark; address = h .address; mark = h .mark; prescale = h .prescale }
 
@@ -147,6 +149,13 @@ acknowledged-widths c k =
     let s = served-sound (c .sound) (c .interrupts .ivr) (sourceOn c) (k .three) (k .channel) in
     let i = withInterrupts c (interruptsServed (c .interrupts) (sourceOn c)) in
     with-sound i (beside c i refl refl refl refl refl k) (soundServed (c .sound) (c .interrupts .ivr) (sourceOn c)) (s .0) (s .1)
+
+pub muted-widths : (c : Chip) (k : ℕ) (on : Bool) → Widths c → Widths (muteSet c k on)
+unfolding muteSet
+muted-widths c k on w =
+    with-sound c w (record { channels = channelsMuted (c .sound .channels) k on; psg = c .sound .psg })
+    (rw (length-set (c .sound .channels) k (withMute (channelOf (c .sound .channels) k) on)) (w .three))
+    (λ n. after-set ChannelWidths (c .sound .channels) k n _ offChannel (w .channel n) (λ e. same (channelOf (c .sound .channels) k) (w .channel k)))
 
 pub stepped-widths : (ram : List ℕ) (c : Chip) → Widths c → Widths (steppedChip ram c)
 unfolding steppedChip countersStepped soundAfter

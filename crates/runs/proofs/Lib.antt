@@ -13,3 +13,4 @@ pub mod Exist
 pub mod Pairs
 pub mod Free
 pub mod Opens
+pub mod Mutes

@@ -20,6 +20,7 @@ use Rattle.chip.specs.declared.Chip.{Chip}
 use Rattle.chip.specs.Editors.{undoOf, listsOf}
 use Rattle.chip.specs.Ports.{dataAnswer, gateAnswer, gateServed}
 use Rattle.chip.specs.Interrupts.{acknowledgeAnswer, sourceOn, nobody}
+use Rattle.chip.specs.Mute.{muteAnswer}
 use Rattle.chip.specs.Step.{stepAnswer}
 use Rattle.placing.specs.InUse.{inUse}
 use Rattle.draw.specs.Drawing.{drawAnswer}
@@ -31,7 +32,7 @@ use Rattle.registers.specs.Registers.{registerAnswer}
 use Rattle.page.specs.Page.{pageAnswer, readAnswer, writeAnswer}
 use Rattle.page.specs.Undo.{undoAnswer}
 use Rattle.runs.specs.World.{World}
-use Rattle.runs.specs.Call.{Call, bc, bd, gate, read, write, undo, ack, line, step, start, area, place, remove, lend, answerTo}
+use Rattle.runs.specs.Call.{Call, bc, bd, gate, read, write, undo, ack, line, step, start, area, place, remove, mute, lend, answerTo}
 
 either-small : (t : Bool) {m n : ℕ} → m < 24 → n < 24 → if t m n < 24
 either-small true h i = h
@@ -64,7 +65,7 @@ place-small (placed long ask free low) = omega arith
 
 -- every call
 pub answer-small : (w : World) (x : Call) → answerTo w x < 24
-unfolding dataAnswer gateAnswer readAnswer writeAnswer undoAnswer acknowledgeAnswer stepAnswer drawAnswer areaAnswer removeAnswer
+unfolding dataAnswer gateAnswer readAnswer writeAnswer undoAnswer acknowledgeAnswer stepAnswer drawAnswer areaAnswer removeAnswer muteAnswer
 answer-small w (bc b) = omega arith
 answer-small w (bd b) = either-small (hasRegister (w .chip .crtc .selected)) (omega arith) (omega arith)
 answer-small w (gate b) = either-small (gateServed b) (omega arith) (omega arith)
@@ -90,4 +91,5 @@ answer-small w (remove handle) =
     either-small (standing a)
     (either-small (taken a handle)
     (either-small (inUse (w .chip .sound) (placeAt (w .lent .slots) handle)) (omega arith) (omega arith)) (omega arith)) (omega arith)
+answer-small w (mute n on) = either-small (ltb n 3) (omega arith) (omega arith)
 answer-small w (lend l) = omega arith

@@ -1,8 +1,17 @@
 -- A claim over two runs side by side, from what one call does to a view of two worlds.
-use mathlib.Core.Path.{_≡_, sym, _∙_}
-use mathlib.Core.List.{List}
+use mathlib.Core.Path.{_≡_, refl, ap, sym, _∙_}
+use mathlib.Core.Bool.{Bool, true, false}
+use mathlib.Core.List.{List, [], _∷_}
+use Prim.Native.Nat.{ℕ, zero, suc}
+use native.Mathlib.Omega.{arith}
+use borrow.Author.Tests.{eqb-true}
+use lib.Dec.{eqb}
+use lib.ListN.{length, getD, set}
+use Rattle.common.specs.Answers.{done}
+use Rattle.common.specs.Choice.{if}
+use Rattle.common.proofs.Tests.{clash}
 use Rattle.runs.specs.World.{World}
-use Rattle.runs.specs.Call.{Call, replyTo, worldAfter}
+use Rattle.runs.specs.Call.{Call, answerTo, replyTo, servedWorld, worldAfter}
 use Rattle.runs.specs.Run.{Made, Run, Each}
 use Rattle.runs.specs.Run as run
 use Rattle.runs.specs.Pair.{Beside, ended, first, second, both, SameReplies, Throughout}
@@ -46,3 +55,27 @@ module _ {Asked : World → Call → Type 0} {View : World → World → Type 0}
       let a = side-by-side rest more others (h .1) (i .1) (j .1) n in
       let told : Ours c → r ≡ q = λ o. rw (fixed k .reply-is, fixed m .reply-is, ← p) (l .replies w x c o (h .0) asked s) in
       record { views = (s, a .views); same = (told, a .same) }
+
+-- a call with the same answer on both
+pub both-answer :
+    (P : World → World → Type 0) (w v : World) (c : Call) → answerTo w c ≡ answerTo v c →
+    (answerTo w c ≡ done → P (servedWorld w c) (servedWorld v c)) → P w v → P (worldAfter w c) (worldAfter v c)
+both-answer P w v c same f g = go (eqb (answerTo w c) done) (eqb (answerTo v c) done) refl (ap (λ n. eqb n done) same)
+  where
+    go : (i j : Bool) → eqb (answerTo w c) done ≡ i → eqb (answerTo w c) done ≡ j → P (if i (servedWorld w c) w) (if j (servedWorld v c) v)
+    go true true h k = f (eqb-true _ _ h)
+    go true false h k = absurd (clash h k)
+    go false true h k = absurd (clash k h)
+    go false false h k = g
+
+-- one place set in two lists of one length: what holds of the elements at a place, and of the two that are put, holds there afterwards
+pub both-set :
+    {A : Type 0} (R : A → A → Type 0) (l m : List A) (n k : ℕ) (y z d : A) → length l ≡ length m → R (getD l k d) (getD m k d) →
+    (k ≡ n → R y z) → R (getD (set l n y) k d) (getD (set m n z) k d)
+both-set R [] [] n k y z d s e h = e
+both-set R [] (b ∷ m) n k y z d s e h = absurd (omega arith)
+both-set R (a ∷ l) [] n k y z d s e h = absurd (omega arith)
+both-set R (a ∷ l) (b ∷ m) zero zero y z d s e h = h refl
+both-set R (a ∷ l) (b ∷ m) zero (suc k) y z d s e h = e
+both-set R (a ∷ l) (b ∷ m) (suc n) zero y z d s e h = e
+both-set R (a ∷ l) (b ∷ m) (suc n) (suc k) y z d s e h = both-set R l m n k y z d (omega arith) e (λ q. h (ap suc q))

@@ -63,6 +63,7 @@ moved : (d : Channel) {address prescale : ℕ} →
       count = d .count;
       counter = d .counter;
       mark = d .mark;
+      muted = d .muted;
     })
 moved d = record { enabled = refl; interrupt = refl; keeps = record { pause = refl; count = refl; counter = refl; mark = refl } }
 

@@ -1,6 +1,7 @@
 -- What a call is to claims over runs. A claim that treats calls alike goes by these cases, and a call that is like another is named here
 -- alone.
 use mathlib.Core.Path.{_≡_, refl, ap}
+use mathlib.Core.Bool.{Bool}
 use mathlib.Core.List.{List, []}
 use Prim.Native.Nat.{ℕ}
 use Rattle.common.specs.Answers.{served}
@@ -13,11 +14,12 @@ use Rattle.chip.specs.declared.Chip.{Chip}
 use Rattle.chip.specs.Channels.{Aside}
 use Rattle.chip.specs.Ports.{selected, dataWritten, gateWritten}
 use Rattle.chip.specs.Interrupts.{acknowledged}
+use Rattle.chip.specs.Mute.{muteSet}
 use Rattle.chip.specs.State.{withEditing}
 use Rattle.chip.specs.Step.{stepped as steppedChip, idleReport}
 use Rattle.lists.specs.declared.Area.{Area}
 use Rattle.chip.specs.Editors.{undoOf, editingWith, withLists}
-use Rattle.chip.proofs.ChannelLaws.{aside-self, acknowledge-leaves}
+use Rattle.chip.proofs.ChannelLaws.{aside-self, acknowledge-leaves, mute-leaves}
 use Rattle.registers.specs.Address.{registerAt}
 use Rattle.registers.specs.Registers.{registerWritten}
 use Rattle.contents.specs.Widths.{Widths}
@@ -25,10 +27,10 @@ use Rattle.page.specs.UndoRecord.{entryAddress, entryContents}
 use Rattle.page.specs.Page.{pageWritten}
 use Rattle.page.specs.Undo.{newest, undone}
 use Rattle.runs.specs.World.{World, placesOf, withChip, roomed, Loan}
-use Rattle.runs.specs.Call.{Call, bc, bd, gate, read, write, undo, ack, line, step, start, area, place, remove, lend, report, outcome, answerTo, servedWorld}
+use Rattle.runs.specs.Call.{Call, bc, bd, gate, read, write, undo, ack, line, step, start, area, place, remove, mute, lend, report, outcome, answerTo, servedWorld}
 use Rattle.runs.specs.Sort as sort
 use Rattle.runs.specs.Sort.{sortOf}
-use Rattle.runs.proofs.ChipWidths.{beside, acknowledged-widths}
+use Rattle.runs.proofs.ChipWidths.{beside, acknowledged-widths, muted-widths}
 
 -- what stays over a call that is neither an edit, nor a line step, nor a start, nor lends: the pixel store and the places of the undo
 -- records; the table and these records; IVR; of a channel all but its interrupt; the widths
@@ -107,6 +109,19 @@ acknowledge-all w =
       widths = acknowledged-widths (w .chip);
     }
 
+mute-all : (w : World) (k : ℕ) (on : Bool) → Leaves w (withChip w (muteSet (w .chip) k on))
+unfolding muteSet
+mute-all w k on =
+    record {
+      store = refl;
+      places = λ ed. refl;
+      table = refl;
+      undo-record = λ ed. refl;
+      ivr = refl;
+      channel = mute-leaves (w .chip) k on;
+      widths = muted-widths (w .chip) k on;
+    }
+
 pub drawn-line : (w : World) (a : Accesses) (n : ℕ) → Lines w (line a n) a
 drawn-line w a n = record { sorts = refl; tells = refl; next = refl }
 
@@ -114,7 +129,7 @@ pub stepped-line : (w : World) (a : Accesses) → Lines w (step a) a
 stepped-line w a = record { sorts = refl; tells = refl; next = refl }
 
 pub view : (w : World) (c : Call) → View w c
-unfolding selected dataWritten gateWritten acknowledged pageWritten undone
+unfolding selected dataWritten gateWritten acknowledged pageWritten undone muteSet
 view w (bc b) = feeds b (ports w (selected (w .chip) b) refl refl refl refl refl refl)
 view w (bd b) = plain refl refl (ports w (dataWritten (w .chip) b) refl refl refl refl refl refl)
 view w (gate b) = plain refl refl (ports w (gateWritten (w .chip) b) refl refl refl refl refl refl)
@@ -128,6 +143,7 @@ view w (start o) = starts o
 view w (area from upto) = plain refl refl (room w _ (w .lent .ram) (w .lent .slots))
 view w (place list) = plain refl refl (room w _ _ _)
 view w (remove handle) = plain refl refl (room w _ (w .lent .ram) (w .lent .slots))
+view w (mute n on) = plain refl refl (mute-all w n on)
 view w (lend l) = lends l
 
 -- a call steps a line or doesn't

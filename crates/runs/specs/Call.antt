@@ -1,5 +1,6 @@
 -- The calls, with their arguments: what each replies and leaves, in the words of the calls' promises. A law says that every call does so.
 use Prim.Native.Nat.{ℕ, _<_, _^_}
+use mathlib.Core.Bool.{Bool}
 use mathlib.Core.List.{List}
 use lib.ListN.{length}
 use Rattle.common.specs.Answers.{done, served}
@@ -15,6 +16,7 @@ use Rattle.lists.proofs.Some.{some}
 use Rattle.chip.specs.Editors.{started, listsOf, withLists}
 use Rattle.chip.specs.Ports.{selected, dataAnswer, dataWritten, gateAnswer, gateWritten}
 use Rattle.chip.specs.Interrupts.{acknowledgeAnswer, acknowledged, vectorOn}
+use Rattle.chip.specs.Mute.{muteAnswer, muteSet}
 use Rattle.chip.specs.Step.{stepAnswer, stepped, idleReport}
 use Rattle.placing.specs.Contract.{removalAnswer}
 use Rattle.line.specs.Contract.{lineAnswer}
@@ -27,9 +29,9 @@ use Rattle.runs.specs.World.{World, placesOf, withChip, edited, roomed, 
 
 -- the byte of a port write; the editor, the address and the bus byte of a page read; the editor, the address and the byte of a page
 -- write; the editor of an undo; what the processor does at the 8255 on a line, and the length of the buffer that the line is drawn into;
--- the owners that a start gives; an area's bounds; a list's bytes; a list's handle. The other buffers are those of the world. `step` is the core's line step, which draws nothing: no host
--- calls it, but a replay is made of such, so that a chip which it hands out is reached too. `lend` is no call of the chip: the host lends
--- another buffer from here on
+-- the owners that a start gives; an area's bounds; a list's bytes; a list's handle; a channel, and whether it is muted. The other buffers
+-- are those of the world. `step` is the core's line step, which draws nothing: no host calls it, but a replay is made of such, so that a
+-- chip which it hands out is reached too. `lend` is no call of the chip: the host lends another buffer from here on
 pub data Call : Type 0 where
   bc : ℕ → Call
   bd : ℕ → Call
@@ -44,6 +46,7 @@ pub data Call : Type 0 where
   area : ℕ → ℕ → Call
   place : List ℕ → Call
   remove : ℕ → Call
+  mute : ℕ → Bool → Call
   lend : Loan → Call
 
 -- what a caller is told: the answer number, and beside it nothing, a byte, a vector, a line's report, or a list's address and handle
@@ -119,6 +122,7 @@ outcome w (place list) =
     }
 outcome w (remove handle) =
     chipOnly w (removalAnswer (w .chip) (w .lent .slots) handle) (withLists (w .chip) (withoutList (listsOf (w .chip)) handle))
+outcome w (mute n on) = chipOnly w (muteAnswer n) (muteSet (w .chip) n on)
 outcome w (lend l) = record { answer = done; told = nothing; next = record { chip = w .chip; lent = lentBy l (w .lent) } }
 
 abbrev pub answerTo : World → Call → ℕ
@@ -149,4 +153,5 @@ Typed (start o) = Unit {0}
 Typed (area from upto) = (from < 2 ^ 32) × (upto < 2 ^ 32)
 Typed (place list) = Bytes list
 Typed (remove handle) = handle < 2 ^ 32
+Typed (mute n on) = n < 65536
 Typed (lend l) = Unit {0}

@@ -1,5 +1,6 @@
 -- Calls made one after the other, each known by its contract alone, as a caller learns it.
 use mathlib.Core.Path.{_≡_}
+use mathlib.Core.Bool.{Bool}
 use mathlib.Core.List.{List, [], _∷_, map}
 use Prim.Native.Nat.{ℕ}
 use contract.Lifetimes.{Lfts}
@@ -19,6 +20,7 @@ use Rattle.chip.proofs.ports.write_bd.Reads as write-bd
 use Rattle.chip.proofs.ports.write_7f.Reads as write-7f
 use Rattle.chip.proofs.acknowledge.acknowledge.Reads as acknowledge
 use Rattle.chip.proofs.line.step.Reads as chip-step
+use Rattle.chip.proofs.mute.mute.Reads as chip-mute
 use Rattle.line.proofs.line.Reads as line-shown
 use Rattle.chip.proofs.table.start.Reads as table-start
 use Rattle.placing.proofs.area.Reads as placing-area
@@ -87,6 +89,9 @@ pub data Makes (w : World) : Call → Reply → World → Type 0 where
       (κs : Lfts 1) (slots : RefT (List ℕ)) (handle : ℕ) (r : Answered) → now slots ≡ w .lent .slots →
       placing-remove.Learnt κs (w .chip, (slots, (handle, tt))) r (w .chip, (slots, (handle, tt))) →
       Makes w (call.remove handle) (number (r .answer)) (withChip w (r .chip))
+  mute :
+      (n : ℕ) (on : Bool) (r : Answered) → chip-mute.Learnt tt (w .chip, (n, (on, tt))) r (w .chip, (n, (on, tt))) →
+      Makes w (call.mute n on) (number (r .answer)) (withChip w (r .chip))
   lend : (l : Loan) → Makes w (call.lend l) (number done) (record { chip = w .chip; lent = lentBy l (w .lent) })
 
 -- one call of a run: the world before it, the call, its reply, the world after it

@@ -5,7 +5,7 @@ use Rattle.editors.specs.declared.Editor.{Editor}
 use Rattle.editors.specs.declared.Owners.{Owners}
 use Rattle.sound.specs.declared.Accesses.{Accesses}
 use Rattle.runs.specs.World.{Loan}
-use Rattle.runs.specs.Call.{Call, bc, bd, gate, read, write, undo, ack, line, step, start, area, place, remove, lend}
+use Rattle.runs.specs.Call.{Call, bc, bd, gate, read, write, undo, ack, line, step, start, area, place, remove, mute, lend}
 
 -- it feeds the lock a byte; writes a byte to an address of the page; takes a write back; steps a line; starts with a table; lends
 -- another buffer; or, plain, does none of these
@@ -32,6 +32,7 @@ sortOf (start o) = starts o
 sortOf (area from upto) = plain
 sortOf (place list) = plain
 sortOf (remove handle) = plain
+sortOf (mute n on) = plain
 sortOf (lend l) = lends l
 
 -- ---- one thing for the calls of one sort, and another for every other call
@@ -94,6 +95,7 @@ listIn (start o) = []
 listIn (area from upto) = []
 listIn (place list) = list ∷ []
 listIn (remove handle) = []
+listIn (mute n on) = []
 listIn (lend l) = []
 
 abbrev pub onPlace {ℓ} : {A : Type ℓ} → (List ℕ → A) → A → Call → A

@@ -1,8 +1,10 @@
 -- What calls hand on from one to the next: the chip, and the buffers that the host lends.
+use mathlib.Core.Bool.{Bool}
 use mathlib.Core.List.{List}
 use Prim.Native.Nat.{ℕ}
 use Rattle.editors.specs.declared.Editor.{Editor}
 use Rattle.editors.specs.Table.{pick}
+use Rattle.sound.specs.Line.{channelOf}
 use Rattle.chip.specs.declared.Chip.{Chip}
 
 -- RAM, which placing alone writes; the pixel store; the places of each editor's undo record; those of the placed lists
@@ -29,6 +31,10 @@ withEdited b e store places =
 -- with another RAM, and other places of lists
 abbrev pub withRoom : Buffers → List ℕ → List ℕ → Buffers
 withRoom b ram slots = record { ram = ram; store = b .store; song = b .song; picture = b .picture; slots = slots }
+
+-- whether channel n is muted
+abbrev pub mutedOf : World → ℕ → Bool
+mutedOf w n = channelOf (w .chip .sound .channels) n .muted
 
 -- a chip with these buffers
 abbrev pub worldOf : Chip → List ℕ → List ℕ → List ℕ → List ℕ → List ℕ → World

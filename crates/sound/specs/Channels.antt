@@ -1,4 +1,4 @@
--- 01, "Sound": what one line does to one channel. It depends on that channel and on RAM alone.
+-- 01, "Sound", and 02, L13: what one line does to one channel. It depends on that channel and on RAM alone.
 use mathlib.Core.Bool.{Bool, true, false}
 use mathlib.Core.List.{List}
 use Prim.Native.Nat.{ℕ, _+_, _-_, _*_, _%_}
@@ -28,6 +28,7 @@ withPause c pause count =
       count = count;
       counter = c .counter;
       mark = c .mark;
+      muted = c .muted;
     }
 
 -- a channel with another address
@@ -42,6 +43,7 @@ withAddress c address =
       count = c .count;
       counter = c .counter;
       mark = c .mark;
+      muted = c .muted;
     }
 
 -- a channel with another loop counter and mark
@@ -56,6 +58,7 @@ withLoop c counter mark =
       count = c .count;
       counter = counter;
       mark = mark;
+      muted = c .muted;
     }
 
 -- a channel with another enable and interrupt
@@ -70,6 +73,22 @@ withFlags c enabled interrupt =
       count = c .count;
       counter = c .counter;
       mark = c .mark;
+      muted = c .muted;
+    }
+
+-- 02, L13: a channel with another mute mark
+abbrev pub withMute : Channel → Bool → Channel
+withMute c muted =
+    record {
+      enabled = c .enabled;
+      interrupt = c .interrupt;
+      address = c .address;
+      prescale = c .prescale;
+      pause = c .pause;
+      count = c .count;
+      counter = c .counter;
+      mark = c .mark;
+      muted = muted;
     }
 
 -- a pause that is running, while the channel is enabled, counts a line; a count past the prescale starts again at 0 and takes 1 off

@@ -1,4 +1,4 @@
--- 01, "Sound": a line of all three channels, the PSG and the cycles.
+-- 01, "Sound", and 02, L6 and L13: a line of all three channels, the PSG and the cycles.
 use mathlib.Core.Bool.{false}
 use mathlib.Core.List.{List, [], _∷_}
 use Prim.Native.Nat.{ℕ, _+_, _/_, _%_}
@@ -33,6 +33,10 @@ loaded psg (Executed Pause n) = psg
 loaded psg (Executed Repeat n) = psg
 loaded psg (Executed Control n) = psg
 loaded psg (Executed Nothing n) = psg
+
+-- 02, L13: what a channel did, as the PSG has it: a muted one's LOAD leaves the register
+abbrev pub heard : Channel → List ℕ → Did → List ℕ
+heard c psg d = if (c .muted) psg (loaded psg d)
 
 -- 02, L6: the cycles that the processor takes from a LOAD: none off the 8255, 1 on it, 2 if its access is itself a PSG register write
 abbrev pub disturbance : Access → ℕ
@@ -83,6 +87,7 @@ offChannel =
       count = 0;
       counter = 0;
       mark = 0;
+      muted = false;
     }
 
 -- channel n of the three
@@ -104,9 +109,10 @@ entriesOn ram cs =
     entryOf (didOn ram (channelOf cs 0)) ∷ entryOf (didOn ram (channelOf cs 1)) ∷
     entryOf (didOn ram (channelOf cs 2)) ∷ []
 
--- the PSG after the channels have executed in order 0, 1, 2
-abbrev pub psgAfter : List ℕ → List Entry → List ℕ
-psgAfter psg es = loaded (loaded (loaded psg (didOf es 0)) (didOf es 1)) (didOf es 2)
+-- the PSG after the channels have executed in order 0, 1, 2, each heard unless it is muted
+abbrev pub psgAfter : List ℕ → List Channel → List Entry → List ℕ
+psgAfter psg cs es =
+    heard (channelOf cs 2) (heard (channelOf cs 1) (heard (channelOf cs 0) psg (didOf es 0)) (didOf es 1)) (didOf es 2)
 
 -- a line's cycles: 1 dead cycle, and each channel's own
 abbrev pub cyclesOf : Accesses → List Entry → ℕ
@@ -116,7 +122,7 @@ cyclesOf a es =
 -- the state after one line's sound, whatever the processor does
 unfoldable pub soundAfter : List ℕ → Sound → Sound
 soundAfter ram s =
-    record { channels = channelsAfter ram (s .channels); psg = psgAfter (s .psg) (entriesOn ram (s .channels)) }
+    record { channels = channelsAfter ram (s .channels); psg = psgAfter (s .psg) (s .channels) (entriesOn ram (s .channels)) }
 
 -- its report
 unfoldable pub soundReport : List ℕ → Accesses → Sound → Report

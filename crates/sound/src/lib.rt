@@ -6,7 +6,7 @@ ghost use Rattle.sound.specs.Channels.{wordAt, pauseCounted, fetched, lo
 ghost use Rattle.sound.specs.Line.{accessBy, accessOf, disturbance, ownCycles, soundLine};
 
 // One channel. `count` is the lines counted towards the next fall of `pause`, `counter` the passes
-// that LOOP has left, `mark` where LOOP goes back to.
+// that LOOP has left, `mark` where LOOP goes back to. The LOADs of a `muted` one leave the PSG.
 #[repr(C)]
 pub struct Channel {
     pub enabled: bool,
@@ -17,6 +17,7 @@ pub struct Channel {
     pub pause: u16,
     pub counter: u16,
     pub mark: u16,
+    pub muted: bool,
 }
 
 // What the processor does at the 8255 while a channel has its turn: it is off it, it is on it, or its access is itself a write to a
@@ -251,7 +252,7 @@ impl Entry {
     }
 }
 
-// One line of all three channels, worked through in order; a LOAD sets its PSG register.
+// One line of all three channels, worked through in order; a LOAD sets its PSG register, if the channel is not muted.
 pub fn sound_line(mut sound: Sound, ram: &[u8], accesses: Accesses) -> SoundLine
     ensures { λ r. ⌜ r ≡ soundLine (now (ram .entry)) accesses sound ⌝ }
 {
@@ -269,6 +270,9 @@ pub fn sound_line(mut sound: Sound, ram: &[u8], accesses: Accesses) -> SoundLine
             continue;
         };
         if !words::is_load(kind) {
+            continue;
+        }
+        if next.muted {
             continue;
         }
         sound.psg[(low / 256 % 16) as usize] = (low % 256) as u8;

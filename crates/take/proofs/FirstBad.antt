@@ -9,7 +9,7 @@ use mathlib.Core.List.{List, [], _∷_, map}
 use Prim.Native.Nat.{ℕ, suc, _+_, _-_, _*_, _<_, _≤_}
 use lib.ListN.{length, getD, drop}
 use lib.Seq.{drop-cons, drop-drop}
-use Rattle.take.specs.Record.{unpacked, recordIn, knownKind, hasAddress, hasValue, absent, bad, firstBad, firstBadAfter}
+use Rattle.take.specs.Record.{unpacked, recordIn, knownKind, hasAddress, absent, valueFits, bad, firstBad, firstBadAfter}
 use Rattle.take.specs.Open.{recordsFrom}
 use Rattle.take.specs.declared.Record.{Record}
 
@@ -25,11 +25,11 @@ module _ (before : ℕ) (r : Record) where
     address-bad e = simp (k, e)
 
     module _ (a : absent (hasAddress (r .kind)) (r .address) ≡ true) where
-      pub value-bad : absent (hasValue (r .kind)) (r .value) ≡ false → true ≡ bad before r
+      pub value-bad : valueFits (r .kind) (r .value) ≡ false → true ≡ bad before r
       unfolding bad
       value-bad e = simp (k, a, e)
 
-      module _ (v : absent (hasValue (r .kind)) (r .value) ≡ true) where
+      module _ (v : valueFits (r .kind) (r .value) ≡ true) where
         pub line-bad : r .line < before → true ≡ bad before r
         unfolding bad
         line-bad h = simp (k, a, v, lt-leb before (r .line) h)

@@ -1,4 +1,4 @@
--- Requests L7 and L9: a record of a take, its 8 bytes, and which records are bad.
+-- Requests L7, L9 and L13: a record of a take, its 8 bytes, and which records are bad.
 use mathlib.Core.Bool.{Bool, not}
 use mathlib.Core.List.{List, [], _∷_, _++_}
 use Prim.Native.Nat.{ℕ, suc, _/_, _%_, _^_, _<_}
@@ -40,14 +40,14 @@ unpacked n =
 abbrev pub recordIn : List ℕ → Record
 recordIn bytes = unpacked (numberOf (take 8 bytes))
 
--- the kinds are 1 to 9: BCxx, BDxx and 7Fxx write; the song editor's page write; acknowledge; the song editor's undo; the picture
--- editor's page write and undo; the start
+-- the kinds are 1 to 10: BCxx, BDxx and 7Fxx write; the song editor's page write; acknowledge; the song editor's undo; the picture
+-- editor's page write and undo; the start; the mute
 abbrev pub knownKind : ℕ → Bool
-knownKind k = both (leb 1 k) (leb k 9)
+knownKind k = both (leb 1 k) (leb k 10)
 
--- a page write alone has an address, either editor's
+-- a page write has an address, either editor's, and a mute: its address is the channel's number, any
 abbrev pub hasAddress : ℕ → Bool
-hasAddress k = either (eqb k 4) (eqb k 7)
+hasAddress k = either (eqb k 4) (either (eqb k 7) (eqb k 10))
 
 -- acknowledge, both editors' undo and the start have no value
 abbrev pub hasValue : ℕ → Bool
@@ -57,13 +57,17 @@ hasValue k = not (either (either (eqb k 5) (eqb k 6)) (either (eqb k 8) (eqb k 9
 abbrev pub absent : Bool → ℕ → Bool
 absent has n = either has (eqb n 0)
 
+-- the values that a kind may have; of a mute it is 1 or 0
+abbrev pub valueFits : ℕ → ℕ → Bool
+valueFits k v = if (eqb k 10) (leb v 1) (absent (hasValue k) v)
+
 -- a record after one with this line number, or after 0 as the first: bad if its kind is none, a part that its kind does
--- not have is not 0, or its line number falls
+-- not have is not 0, a mute's value is neither 1 nor 0, or its line number falls
 unfoldable pub bad : ℕ → Record → Bool
 bad before r =
     not (both (knownKind (r .kind))
     (both (absent (hasAddress (r .kind)) (r .address))
-    (both (absent (hasValue (r .kind)) (r .value))
+    (both (valueFits (r .kind) (r .value))
     (leb before (r .line)))))
 
 -- the first bad record's number from 1, or 0 where none is bad; so many records came before, the last with this line number

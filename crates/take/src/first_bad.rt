@@ -5,13 +5,13 @@ ghost use mathlib.Core.Path.{_≡_};
 ghost use mathlib.Core.List.{map};
 ghost use Prim.Native.Nat.{_+_, _*_, _≤_};
 ghost use lib.ListN.{length, drop};
-ghost use Rattle.take.specs.Record.{unpacked, knownKind, hasAddress, hasValue, absent, bad, firstBad};
+ghost use Rattle.take.specs.Record.{unpacked, knownKind, hasAddress, hasValue, absent, valueFits, bad, firstBad};
 ghost use Rattle.take.specs.Open.{recordsFrom};
 
 fn known_kind(kind: u8) -> bool
     ensures { λ r. ⌜ r ≡ knownKind kind ⌝ }
 {
-    1 <= kind && kind <= 9
+    1 <= kind && kind <= 10
 }
 
 fn has_address(kind: u8) -> bool
@@ -20,7 +20,10 @@ fn has_address(kind: u8) -> bool
     if kind == 4 {
         return true;
     }
-    kind == 7
+    if kind == 7 {
+        return true;
+    }
+    kind == 10
 }
 
 fn has_value(kind: u8) -> bool
@@ -48,6 +51,16 @@ fn is_absent(has: bool, part: u16) -> bool
     part == 0
 }
 
+// Whether a kind may have this value: a mute has 1 or 0.
+fn value_fits(kind: u8, value: u8) -> bool
+    ensures { λ r. ⌜ r ≡ valueFits kind value ⌝ }
+{
+    if kind == 10 {
+        return value <= 1;
+    }
+    is_absent(has_value(kind), value as u16)
+}
+
 // Whether a record is bad after one with this line number.
 fn is_bad(before: u32, entry: Record) -> bool
     ensures { λ r. ⌜ r ≡ bad before entry ⌝ }
@@ -59,7 +72,7 @@ fn is_bad(before: u32, entry: Record) -> bool
     if !is_absent(has_address(kind), entry.address) {
         return true;
     }
-    if !is_absent(has_value(kind), entry.value as u16) {
+    if !value_fits(kind, entry.value) {
         return true;
     }
     if entry.line < before {

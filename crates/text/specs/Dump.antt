@@ -1,4 +1,4 @@
--- The line of a record that exports.
+-- Lines of hexadecimal digits: of an order that exports, and of one that shows the PSG.
 use mathlib.Core.List.{List, _∷_, _++_}
 use Prim.Native.Nat.{ℕ, _/_, _%_}
 use lib.Dec.{eqb}
@@ -14,6 +14,14 @@ use Rattle.text.specs.Paint.{characters}
 abbrev pub digitAt : List ℕ → ℕ → ℕ
 digitAt bytes x = if (eqb (x % 2) 0) (getD bytes (x / 2) 0 / 16) (getD bytes (x / 2) 0 % 16)
 
--- the answer, a space, and the 477 bytes in 954 digits
+-- an answer, a space, and so many digits
+abbrev pub digitLine : ℕ → List ℕ → ℕ → List ℕ
+digitLine answer bytes n = numeral answer ++ 32 ∷ characters (digitAt bytes) n ++ lineEnd
+
+-- the 477 bytes of an export, in 954 digits
 unfoldable pub exportLine : Chip → List ℕ
-exportLine c = numeral done ++ 32 ∷ characters (digitAt (bytesOf c exported)) 954 ++ lineEnd
+exportLine c = digitLine done (bytesOf c exported) 954
+
+-- the 16 PSG registers, in 32 digits
+unfoldable pub psgLine : List ℕ → List ℕ
+psgLine registers = digitLine done registers 32

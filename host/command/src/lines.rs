@@ -24,7 +24,8 @@ impl fmt::Display for Outcome {
                 drawn(f, &line[..])?;
                 reported(f, report)
             }
-            Outcome::Exported(Answer::Done, out) => exported(f, &out[..]),
+            Outcome::Exported(Answer::Done, out) => shown(f, &out[..]),
+            Outcome::Psg(registers) => shown(f, registers),
             Outcome::Shown(answer, ..) | Outcome::Exported(answer, _) => {
                 write!(f, "{}", answer.number())
             }
@@ -65,8 +66,8 @@ fn drawn(f: &mut fmt::Formatter, line: &[u8]) -> fmt::Result {
 }
 
 /// The answer, and the bytes.
-fn exported(f: &mut fmt::Formatter, out: &[u8]) -> fmt::Result {
-    write!(f, "{} {}", Answer::Done.number(), digits(out))
+fn shown(f: &mut fmt::Formatter, bytes: &[u8]) -> fmt::Result {
+    write!(f, "{} {}", Answer::Done.number(), digits(bytes))
 }
 
 /// Two hexadecimal digits a byte.

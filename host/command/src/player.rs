@@ -37,6 +37,8 @@ pub enum Outcome {
     Shown(Answer, Box<[u8; LINE]>, Report),
     /// An export.
     Exported(Answer, Box<[u8; EXPORT]>),
+    /// The PSG's registers.
+    Psg([u8; 16]),
     /// A forecast.
     Forecast(Length),
     /// The letter names no call.
@@ -72,6 +74,8 @@ impl Player {
             b'N' => self.area(),
             b'K' => self.place(address, value),
             b'X' => Outcome::Answer(self.chip.remove(value.into())),
+            b'Q' => Outcome::Answer(self.chip.mute(address, value != 0)),
+            b'H' => Outcome::Psg(self.chip.sound.psg),
             b'E' => self.export(),
             b'A' => self.acknowledge(),
             b'L' => self.passed(value),

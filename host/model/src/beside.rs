@@ -49,6 +49,8 @@ pub struct Seen {
     /// How often the host's placings and removals of lists did.
     pub places: [u64; 24],
     pub removals: [u64; 24],
+    /// And its mutes.
+    pub mutes: [u64; 24],
     /// Pairs that ended early, at a removal that was answered differently.
     pub ended: u64,
     /// Calls of the other one that were served in one of the runs.
@@ -65,6 +67,7 @@ impl Seen {
             Call::Undo { .. } => &mut self.undos,
             Call::Place { .. } => &mut self.places,
             Call::Remove(_) => &mut self.removals,
+            Call::Mute { .. } => &mut self.mutes,
             _ => return,
         };
         row[usize::from(reply.number())] += 1;
@@ -109,6 +112,12 @@ fn maker(call: Call) -> Option<Editor> {
 type Room<'a> = (Option<(u32, u32)>, Vec<List>, &'a [u8]);
 
 impl<M: Machine> Run<M> {
+    /// Which channels are muted.
+    fn mutes(&self) -> [bool; 3] {
+        let channels = self.machine.state().sound.channels;
+        channels.map(|channel| channel.muted)
+    }
+
     fn room(&self) -> Room<'_> {
         let machine = &self.machine;
         (machine.bounds(), machine.lists(), &self.lent.ram)
@@ -117,7 +126,7 @@ impl<M: Machine> Run<M> {
 
 impl Pair {
     /// Both runs: an answer of the watching editor's that differs, or a part of what
-    /// it owns or of its record, after any call. Where a removal has to get the same
+    /// it owns or of its record, or a mute mark, after any call. Where a removal has to get the same
     /// answer and doesn't, the runs end before it.
     pub fn run<M: Machine>(&self, seen: &mut Seen) -> Result<(), String> {
         let mut runs = [Run::<M>::new(self), Run::<M>::new(self)];
@@ -151,6 +160,9 @@ impl Pair {
             }
             let views = runs.each_ref().map(|run| self.view(run));
             views[0].differs(&views[1]).map_err(differs)?;
+            if runs[0].mutes() != runs[1].mutes() {
+                return Err(differs(String::from("other channels are muted")));
+            }
             if runs
                 .iter()
                 .any(|run| run.machine.state().interrupts.ivr != ivr)

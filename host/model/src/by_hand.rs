@@ -51,6 +51,7 @@ impl<'a, M: Machine> ByHand<'a, M> {
             kind::PICTURE_WRITE => chip.page_write(Editor::Picture, store, address, value),
             kind::PICTURE_UNDO => chip.undo(Editor::Picture, store),
             kind::START => chip.start(self.table),
+            kind::MUTE => chip.mute(address, value == 1),
             other => panic!("kind {other}"),
         }
     }

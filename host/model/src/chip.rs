@@ -126,7 +126,8 @@ pub struct Sprite {
 }
 
 /// `count` counts lines within one step of the pause; `counter` is the loop
-/// counter and `mark` the address it goes back to.
+/// counter and `mark` the address it goes back to. The LOADs of a `muted` one leave
+/// the PSG.
 #[derive(Clone, Copy, Debug, Default, PartialEq, Eq)]
 pub struct Channel {
     pub enabled: bool,
@@ -137,6 +138,7 @@ pub struct Channel {
     pub count: u8,
     pub counter: u16,
     pub mark: u16,
+    pub muted: bool,
 }
 
 #[derive(Clone, Copy, Debug, Default, PartialEq, Eq)]

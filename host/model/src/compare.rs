@@ -34,6 +34,9 @@ pub struct Tally {
     /// How many LOADs met the processor off the 8255, on it, and writing a PSG
     /// register there.
     pub loads: [u64; 3],
+    /// How many were a muted channel's, and beside how many of these a channel that is
+    /// not muted loaded the same register.
+    pub muted: [u64; 2],
     /// How often a list could not be removed for a channel's address, for its mark, and
     /// for nothing but a word between the two.
     pub in_use: [u64; 3],
@@ -65,6 +68,23 @@ impl Tally {
             for (access, reported) in accesses.into_iter().zip(report.kinds) {
                 self.loads[access as usize] += u64::from(reported == kind::LOAD);
             }
+        }
+    }
+
+    /// The LOADs of muted channels on a line, on a chip after it.
+    fn add_muted(&mut self, reply: Reply, chip: &Chip) {
+        let Reply::Line(_, report) = reply else {
+            return;
+        };
+        let loads = |muted: bool| {
+            let of = move |&n: &usize| {
+                report.kinds[n] == kind::LOAD && chip.sound.channels[n].muted == muted
+            };
+            (0..3).filter(of).map(move |n| report.lows[n] >> 8)
+        };
+        for register in loads(true) {
+            self.muted[0] += 1;
+            self.muted[1] += u64::from(loads(false).any(|other| other == register));
         }
     }
 
@@ -197,6 +217,7 @@ fn run<M: Machine>(script: &Script, calls: &[Call], tally: &mut Tally) -> Option
         };
         tally.add(call, reply);
         tally.add_editing(before, two.core.editing);
+        tally.add_muted(reply, &two.core);
         tally.add_lists(call, reply, &two.core);
     }
     None
@@ -269,6 +290,11 @@ impl fmt::Display for Tally {
         writeln!(
             f,
             "LOADs met the processor off the 8255 {off} times, on it {on}, in a PSG write {psg_write}"
+        )?;
+        let [muted, beside] = self.muted;
+        writeln!(
+            f,
+            "{muted} LOADs were a muted channel's, {beside} of them beside one of the same register"
         )?;
         let [address, mark, word] = self.in_use;
         writeln!(

@@ -80,6 +80,7 @@ mod line;
 mod listing;
 mod lists;
 mod mend;
+mod mute;
 mod page;
 mod ports;
 mod processor;
@@ -133,6 +134,12 @@ pub use mend::{
     PausesGone, PlaceBy32Bits, PlacesFall, PlacesFrom1, ReportBeforeStop, ReportedThoughRefused,
     StopBeyondSeen, StopByBitAlone, StopCleared, StopOf5020, StrayBitsStay, StrayStopUnseen,
 };
+pub use mute::{
+    AllMutedByOne, Channel3Served, ChannelBy8Bits, HeardByDcsr, HeardByStart, HeardByUndo,
+    MarkOfChannel0, MuteThroughReset, MuteTurns, MutedAtReset, MutedLoadFree, MutedLoadHeard,
+    MutedLoadSitsOut, MutedLoadWithoutBits, MutedNotMoved, MutedPauseStands, MutedThoughRefused,
+    NeverHeardAgain, OffByMute, PauseEndedByMute, VolumeByMute,
+};
 pub use page::{
     HighByteOfBits, LengthLast, NoMirrors, OneKindOfNothing, PauseEndedByStart,
     PauseRestartedByDisable, WholePixel,
@@ -143,9 +150,10 @@ pub use processor::{
     MostThoughRefused, OnTakesTwo, OthersDisturbed, PauseDisturbed, SatOutDisturbed,
 };
 pub use replay::{
-    CountedTogether, FirstRecordSkipped, LinesAfterTheCall, NoLinesInModeThree, NotFromReset,
-    OneLineMore, PictureUndoOfSong, PictureWriteOfSong, PlayedUpToBad, RefusedCallEnds,
-    RefusedNotCounted, TableNotLent, TakeBeforeLengths,
+    CountedTogether, FirstRecordSkipped, LinesAfterTheCall, MuteByLowBits, MutedByValue0,
+    MutesPassedOver, NoLinesInModeThree, NotFromReset, OneLineMore, PictureUndoOfSong,
+    PictureWriteOfSong, PlayedUpToBad, RefusedCallEnds, RefusedNotCounted, TableNotLent,
+    TakeBeforeLengths,
 };
 pub use sound::{
     ControlAsNothing, EightRegisters, HighestChannelFirst, ListWithoutStop, LoopInStopWord,
@@ -154,10 +162,11 @@ pub use sound::{
 pub use take::{
     AddressHighFirst, BadRecordFrom0, BeyondTakeCleared, CommentThoughRefused,
     CountAndOffsetSwapped, CountThoughBad, EndBy32Bits, FallingLineAccepted, FullRoomRefused,
-    GapAllowed, Kind0Accepted, Kind10Accepted, KindByValue, LineBy16Bits, MetBeforeLetters,
-    NoRecordsThoughMet, NoSuchRecordServed, NumberBeforeTrailer, OffsetCut,
-    PictureWriteWithoutAddress, PortWithAddress, RecordFrom0, RecordsBeforeMet, RoomBeforeRecords,
-    SameLineBad, StartWithAddress, StartWithValue, ThreeLetters, TrailerOf11, UndoWithValue,
+    GapAllowed, Kind0Accepted, Kind11Accepted, KindByValue, LineBy16Bits, MetBeforeLetters,
+    MuteOfChannel3Bad, MuteWithValue2, NoRecordsThoughMet, NoSuchRecordServed, NumberBeforeTrailer,
+    OffsetCut, PictureWriteWithoutAddress, PortWithAddress, RecordFrom0, RecordsBeforeMet,
+    RoomBeforeRecords, SameLineBad, StartWithAddress, StartWithValue, ThreeLetters, TrailerOf11,
+    UndoWithValue,
 };
 pub use undo::{
     CapturedSplitBack, DcsrKept, EmptyFirst, EmptyServed, OtherByteToo, PixelBackBy4Bits,

@@ -221,6 +221,9 @@ calls! {
         /// An acknowledge: the answer and the vector.
         fn acknowledge() -> (Answer, u8);
 
+        /// A channel muted, or heard again.
+        fn mute(channel: u16, on: bool) -> Answer;
+
         /// The current line drawn and stepped, with what the processor does at the
         /// 8255.
         fn line(
@@ -392,6 +395,10 @@ impl Machine for Model {
     fn acknowledge(&mut self) -> (Answer, u8) {
         let (number, vector) = Model::acknowledge(self);
         (answer(number), vector)
+    }
+
+    fn mute(&mut self, channel: u16, on: bool) -> Answer {
+        answer(Model::mute(self, channel, on))
     }
 
     fn line(

@@ -159,6 +159,16 @@ fn any_channel(r: &mut Random) -> Channel {
         count: r.byte(),
         counter: r.below(4096) as u16,
         mark: r.word() & 0xFFFE,
+        muted: r.chance(3),
+    }
+}
+
+/// A channel of a mute, seldom one that there is not.
+pub fn any_channel_number(random: &mut Random) -> u16 {
+    let other = random.word();
+    match random.chance(6) {
+        true => random.pick(&[3, 4, 255, 256, 257, 512, 0x8000, 0xFFFF, other]),
+        false => random.below(3) as u16,
     }
 }
 
@@ -312,14 +322,19 @@ fn any_record(random: &mut Random, line: u32) -> Record {
         kind::PICTURE_WRITE,
         kind::PICTURE_UNDO,
         kind::START,
+        kind::MUTE,
     ]);
-    let has_address = matches!(kind, kind::PAGE_WRITE | kind::PICTURE_WRITE);
-    let has_value = has_address || kind <= kind::WRITE_7F;
+    let (address, value) = match kind {
+        kind::WRITE_BC | kind::WRITE_BD | kind::WRITE_7F => (0, random.byte()),
+        kind::PAGE_WRITE | kind::PICTURE_WRITE => (random.word(), random.byte()),
+        kind::MUTE => (any_channel_number(random), random.below(2) as u8),
+        _ => (0, 0),
+    };
     Record {
         line,
         kind,
-        address: if has_address { random.word() } else { 0 },
-        value: if has_value { random.byte() } else { 0 },
+        address,
+        value,
     }
 }
 

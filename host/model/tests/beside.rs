@@ -20,7 +20,7 @@ fn pairs<M: Machine>(count: u64, premises: Premises) -> Result<Seen, String> {
 held!(neither_editor_is_felt_by_the_other,
     fails_with OthersChannelsShown, Bit7Shown, NotYoursServed, OthersInterruptCleared,
         OthersEnabled, UndoOfOther, OneRecord, IvrOfBoth, PixelOfNextSprite,
-        HighByteOfNextEntry);
+        HighByteOfNextEntry, HeardByDcsr, HeardByUndo);
 fn neither_editor_is_felt_by_the_other<M: Machine>() {
     if let Err(felt) = pairs::<M>(2_000, Premises::ALL) {
         panic!("{felt}");
@@ -32,13 +32,14 @@ fn the_pairs_are_of_all_sorts<M: Machine>() {
     let seen = pairs::<M>(2_000, Premises::ALL).expect("nothing is felt");
     println!("{seen:?}");
     // The calls of the editor that watches gave each number that they can give, and so
-    // did those on lists, but for 19 and for 1.
+    // did the host's mutes and its calls on lists, but for 19 and for 1.
     for (answers, numbers) in [
         (seen.writes, &[0, 1, 2, 3, 9, 15][..]),
         (seen.reads, &[0, 1, 2]),
         (seen.undos, &[0, 1, 10]),
         (seen.places, &[0, 18, 20]),
         (seen.removals, &[0, 18, 21, 22]),
+        (seen.mutes, &[0, 3]),
     ] {
         for (number, &times) in answers.iter().enumerate() {
             assert_eq!(times >= 20, numbers.contains(&number), "{seen:?}");

@@ -29,6 +29,7 @@ fn core_is_the_model() {
         &[0, 18, 21, 22],
         &[0, 1],
         &[0, 5],
+        &[0, 3],
         &[0, 1, 4],
         &[0, 1, 6],
     ];
@@ -51,6 +52,10 @@ fn core_is_the_model() {
     for (met, times) in tally.loads.into_iter().enumerate() {
         assert!(times >= 1_000, "{met}: {times}");
     }
+    // Many were a muted channel's, some of them beside one of the same register.
+    let [muted, beside] = tally.muted;
+    assert!(muted >= 1_000, "{muted}");
+    assert!(beside >= 100, "{beside}");
     // Lists were in use for each of the three reasons, and many went between others.
     for (reason, times) in tally.in_use.into_iter().enumerate() {
         assert!(times >= 100, "{reason}: {times}");
@@ -90,20 +95,21 @@ macro_rules! caught {
 }
 
 caught! {
-    reset: RecordThroughReset, TableThroughReset, ListsThroughReset;
+    reset: RecordThroughReset, TableThroughReset, ListsThroughReset, MutedAtReset,
+        MuteThroughReset;
     write_bc: LostZero, UnlockedAtCd, LockingUnmaps;
     write_bd: WholeR4;
     write_7f: MappedAt10;
     start: RecordsThroughStart, PictureRecordThroughStart, FirstTableStays, ChannelsBy8Bits,
-        ListsLostByStart;
+        ListsLostByStart, HeardByStart;
     page_read: HighByteOfBits, LengthLast, OthersChannelsShown, Bit7Shown, OthersNotRead;
     page_write: WholePixel, NoMirrors, OneKindOfNothing, PauseEndedByStart,
         PauseRestartedByDisable, DcsrKept, RefusedKept, SameNotKept, RecordOf255,
         NotYoursServed, NotYoursAsNothing, NotYoursUnmapped, ConverterOfNobody,
         NothingOfNobody, IvrOfBoth, ScreenOfSong, PixelOfNextSprite, HighByteOfNextEntry,
-        OthersInterruptCleared, OthersEnabled, DcsrOfOwners, OneRecord;
+        OthersInterruptCleared, OthersEnabled, DcsrOfOwners, OneRecord, HeardByDcsr;
     undo: UndoOfOther, WrittenByteBack, PixelBackBy4Bits, OtherByteToo, CapturedSplitBack, EmptyServed,
-        EmptyFirst, UndoWhereMapped, UndoWhereUnlocked;
+        EmptyFirst, UndoWhereMapped, UndoWhereUnlocked, HeardByUndo;
     area: OddBoundsTaken, EmptyAreaServed, ReversedTaken, HighBoundTaken, BoundsBy16Bits,
         EndOfRamRefused, GivenTwice, RefusedAreaStands;
     place: TouchingIsOverlap, SecondGap, HighestAddress, ShortestGap, OddLengthPlaced,
@@ -118,12 +124,16 @@ caught! {
     export: XHighAsRead, MagnificationAtMirror, HighAddressFirst, StartOneWordBack, NoPrescales,
         ExportedThoughRefused;
     acknowledge: LowestFirst, AlwaysCleared;
+    mute: Channel3Served, ChannelBy8Bits, MutedThoughRefused, PauseEndedByMute, OffByMute,
+        VolumeByMute, MuteTurns, NeverHeardAgain;
     line: HighestSpriteFirst, ScrollOf3Bits, SteppedBeforeDrawn, ModeThreeDrawn,
         DrawnThoughRefused, SteppedThoughRefused, SteppedWithOtherStore, SteppedWithOtherLine,
         SteppedInModeThree, ModeBeforeLengths, CyclesThoughRefused, ReportLost,
         RasterInAdjust, SplitLateInAdjust, SplitOnFirstLine, AdvanceByRcAlone, RepeatKTimes, OuterCountKept, EightRegisters, HighestChannelFirst,
         PauseOf0Counts, ControlAsNothing, PauseDisturbed, OthersDisturbed, SatOutDisturbed,
-        OnTakesTwo, AccessOfChannel1, AccessesIgnored, LoadLost;
+        OnTakesTwo, AccessOfChannel1, AccessesIgnored, LoadLost, MutedLoadHeard, MarkOfChannel0,
+        AllMutedByOne, MutedLoadFree, MutedLoadSitsOut, MutedLoadWithoutBits, MutedNotMoved,
+        MutedPauseStands;
     forecast: LoopInStopWord, ListWithoutStop, MostOnce, MostIsLeast, LeastIsMost,
         MostThoughRefused;
 }
@@ -371,10 +381,11 @@ macro_rules! take_caught {
 take_caught! {
     AddressHighFirst, BadRecordFrom0, BeyondTakeCleared, CommentThoughRefused,
     CountAndOffsetSwapped, CountThoughBad, FallingLineAccepted, FullRoomRefused, GapAllowed,
-    Kind0Accepted, Kind10Accepted, KindByValue, LineBy16Bits, MetBeforeLetters,
+    Kind0Accepted, Kind11Accepted, KindByValue, LineBy16Bits, MetBeforeLetters,
     NoRecordsThoughMet, NoSuchRecordServed, NumberBeforeTrailer, PortWithAddress, RecordFrom0,
     RecordsBeforeMet, RoomBeforeRecords, SameLineBad, ThreeLetters, TrailerOf11, UndoWithValue,
-    StartWithValue, StartWithAddress, PictureWriteWithoutAddress
+    StartWithValue, StartWithAddress, PictureWriteWithoutAddress, MuteWithValue2,
+    MuteOfChannel3Bad
 }
 
 /// A test for each fault of refusals, their order above all: it is seen where all sets
@@ -446,5 +457,6 @@ seen! {
     in replay::sessions(10_000):
     CountedTogether, FirstRecordSkipped, LinesAfterTheCall, NoLinesInModeThree, NotFromReset,
     OneLineMore, PlayedUpToBad, RefusedCallEnds, RefusedNotCounted, TakeBeforeLengths,
-    PictureUndoOfSong, PictureWriteOfSong, TableNotLent
+    PictureUndoOfSong, PictureWriteOfSong, TableNotLent, MutesPassedOver, MutedByValue0,
+    MuteByLowBits
 }

@@ -128,6 +128,11 @@ fn each_kind_with_its_line() {
     assert_eq!(recorder.page_write(Picture, &mut store, 0x6400, 5), 0);
     assert_eq!(recorder.undo(Song, &mut store), 10);
     assert_eq!(recorder.undo(Picture, &mut store), 0);
+    assert_eq!(recorder.mute(1, true), 0);
+    assert_eq!(recorder.mute(3, true), 3);
+    assert_eq!(recorder.mute(256, true), 3);
+    assert_eq!(line(&mut recorder, &ram, STORE, LINE), 0);
+    assert_eq!(recorder.mute(1, false), 0);
     let record = |line, kind, address, value| Record {
         line,
         kind,
@@ -147,6 +152,8 @@ fn each_kind_with_its_line() {
         record(2, kind::START, 0, 0),
         record(2, kind::PICTURE_WRITE, 0x6400, 5),
         record(2, kind::PICTURE_UNDO, 0, 0),
+        record(2, kind::MUTE, 1, 1),
+        record(3, kind::MUTE, 1, 0),
     ];
     assert_eq!(recorder.records().unwrap()[before..], expected);
 }
@@ -154,15 +161,17 @@ fn each_kind_with_its_line() {
 /// A call that leaves all as it was is noted in the one mode alone.
 #[test]
 fn calls_that_change_nothing() {
-    for (noted, more) in [(Noted::Changes, 0), (Noted::Served, 3)] {
+    for (noted, more) in [(Noted::Changes, 0), (Noted::Served, 4)] {
         let (mut recorder, before) = mapped(noted);
         let mut store = vec![0; STORE];
         let before = before + 1;
         recorder.write_bc(3);
-        // The register selected again, the page mapped again, no enable set.
+        // The register selected again, the page mapped again, no enable set, a channel
+        // heard that was not muted.
         recorder.write_bc(3);
         let _ = recorder.write_7f(0xB8);
         let _ = recorder.page_write(Song, &mut store, 0x6C0F, 0);
+        let _ = recorder.mute(2, false);
         assert_eq!(recorder.records().unwrap().len(), before + more);
         // A byte that its register has already is kept for undo, which is a change.
         let _ = recorder.page_write(Song, &mut store, 0x6800, 0);

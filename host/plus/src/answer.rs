@@ -30,7 +30,7 @@ pub enum Answer {
     /// write.
     NotMapped = 2,
     /// Nothing takes the byte: writes to the page, the 6845's data port, 7Fxx. Or no
-    /// record has the number: a take's record.
+    /// record has the number: a take's record. Or no channel has it: mute.
     NothingThere = 3,
     /// The screen mode is 3: the line's call.
     ModeThree = 4,
@@ -151,7 +151,9 @@ impl fmt::Display for Answer {
             Answer::Done => "done",
             Answer::WrongLength => "a buffer has another length than its call wants",
             Answer::NotMapped => "the page is not mapped, or the address is not in it",
-            Answer::NothingThere => "no register there that could be written, or no such record",
+            Answer::NothingThere => {
+                "no register there that could be written, or no such record or channel"
+            }
             Answer::ModeThree => "a line in screen mode 3 can't be drawn",
             Answer::NoInterrupt => "no interrupt is waiting",
             Answer::NoStop => "the list has no STOP up to the end of RAM",

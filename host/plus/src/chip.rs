@@ -47,7 +47,8 @@ impl Chip {
         }
     }
 
-    /// Resets it, which leaves no table, nothing to undo and no area for lists.
+    /// Resets it, which leaves no table, nothing to undo, no area for lists and no
+    /// channel muted.
     pub fn reset(&mut self) {
         **self = unsafe { ffi::plus_reset() };
     }
@@ -226,6 +227,14 @@ impl Chip {
         let acknowledged = unsafe { ffi::plus_acknowledge(self.state) };
         **self = acknowledged.chip;
         (acknowledged.answer, acknowledged.vector)
+    }
+
+    /// Mutes a channel, or ends that. It plays on as it would, and its LOADs are
+    /// reported, but they leave the PSG as it is. Nothing else changes, and no other
+    /// call but a reset ends it. Answers 0, or 3 for a channel above 2.
+    #[must_use]
+    pub fn mute(&mut self, channel: u16, on: bool) -> Answer {
+        self.answered(unsafe { ffi::plus_mute(self.state, channel, on) })
     }
 
     /// A line: it is drawn, and then the chip stepped. Each byte of `line` becomes the

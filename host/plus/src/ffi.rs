@@ -96,6 +96,7 @@ extern "C" {
     pub(crate) fn plus_remove(chip: State, places: &[u32; LISTS], handle: u32) -> Answered;
     pub(crate) fn plus_export(chip: State, out: *mut u8, out_length: usize) -> Answer;
     pub(crate) fn plus_acknowledge(chip: State) -> Acknowledged;
+    pub(crate) fn plus_mute(chip: State, channel: u16, on: bool) -> Answered;
     pub(crate) fn plus_line(
         chip: State,
         ram: *const u8,

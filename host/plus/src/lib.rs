@@ -12,6 +12,7 @@
 //! for the number of a bad line or a bad record.
 //!
 //! A line is one call, [`Chip::line`], which draws it and steps on to the next.
+//! [`Chip::mute`] silences a sound channel, which plays on unheard.
 //!
 //! Two editors work on one chip, a song editor and a picture editor. Page reads,
 //! page writes and undos name the [`Editor`] that makes them, and each has a record
@@ -100,6 +101,28 @@
 //!     report.cycles
 //! });
 //! assert_eq!(lines, [28, 31, 34]);
+//! ```
+//!
+//! A channel muted and heard again. Its LOADs are reported as ever, and only the PSG
+//! does not get them:
+//!
+//! ```
+//! use plus::{kind, Access, Answer, Chip, LINE, RAM, STORE};
+//!
+//! // LOAD 8 0F, LOAD 8 0E
+//! let (mut ram, store) = (vec![0; RAM], vec![0; STORE]);
+//! ram[..4].copy_from_slice(&[0x0F, 0x08, 0x0E, 0x08]);
+//! let mut chip = Chip::new();
+//! chip.sound.channels[0].enabled = true;
+//! for (on, volume) in [(true, 0), (false, 0x0E)] {
+//!     chip.mute(0, on).served()?;
+//!     let (answer, report) = chip.line(&ram, &store, &mut [0; LINE], [Access::Off; 3]);
+//!     answer.served()?;
+//!     assert_eq!((report.kinds[0], report.cycles), (kind::LOAD, 10));
+//!     assert_eq!(chip.sound.psg[8], volume);
+//! }
+//! assert_eq!(chip.mute(3, true), Answer::NothingThere); // there are channels 0 to 2
+//! # Ok::<(), Answer>(())
 //! ```
 //!
 //! A prescale changed, undone and exported. The export ends with the registers of

@@ -76,10 +76,10 @@ pub struct Change {
 /// 4000h, and a control word keeps LOOP, INT and STOP and no other bit. If none of
 /// them has STOP, 4020h goes after the last, and is reported last.
 ///
-/// From a channel with no pause and no loop the list plays as it did, up to its
-/// first STOP or its end. The report has room for a change in every [`CHANGE`]
-/// numbers, which [`change`] takes apart; room for one more than there are words is
-/// always enough. Words and numbers beyond stay.
+/// From a channel with no pause and no loop that is not muted the list plays as it
+/// did, up to its first STOP or its end. The report has room for a change in every
+/// [`CHANGE`] numbers, which [`change`] takes apart; room for one more than there are
+/// words is always enough. Words and numbers beyond stay.
 #[must_use]
 pub fn mend(words: &mut [u16], used: usize, report: &mut [u64]) -> Mended {
     version::check();

@@ -122,6 +122,8 @@ pub struct Channel {
     pub counter: u16,
     /// Where LOOP goes back to.
     pub mark: u16,
+    /// Whether its LOADs leave the PSG as it is: [`Chip::mute`](crate::Chip::mute).
+    pub muted: bool,
 }
 
 /// The sound channels, and the PSG they load.

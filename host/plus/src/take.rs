@@ -49,8 +49,9 @@ pub const RECORD: usize = 8;
 pub const TRAILER: usize = 12;
 
 /// One call of a take. It is bad if its kind is none of those in [`kind`], if its
-/// kind has no address or no value and that is not 0, or if its line number is
-/// below that of the record before it.
+/// kind has no address or no value and that is not 0, if it is a mute with another
+/// value than 0 and 1, or if its line number is below that of the record before it.
+/// A mute of a channel above 2 is not bad: playing it counts it at 3.
 #[repr(C)]
 #[derive(Clone, Copy, Debug, Default, PartialEq, Eq)]
 pub struct Record {
@@ -58,9 +59,9 @@ pub struct Record {
     pub line: u32,
     /// Which call it is.
     pub kind: u8,
-    /// Where a page write goes.
+    /// Where a page write goes, or the channel of a mute.
     pub address: u16,
-    /// The byte that is written.
+    /// The byte that is written; of a mute 1 for on and 0 for off.
     pub value: u8,
 }
 

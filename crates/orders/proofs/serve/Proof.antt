@@ -64,6 +64,12 @@ list-placed-requires c κs = search needs
 list-removed-requires : tie.Need-list-removed-requires
 list-removed-requires c κs = search needs
 
+muted-requires : tie.Need-muted-requires
+muted-requires c κs = search needs
+
+psg-shown-requires : tie.Need-psg-shown-requires
+psg-shown-requires c κs = search needs
+
 reset-requires : tie.Need-reset-requires
 reset-requires c κs = search needs
 
@@ -233,13 +239,25 @@ same-length-34 : tie.Need-same-length-34
 same-length-34 c = search needs
 
 returns-21 : tie.Need-returns-21
-returns-21 c = by-letter 90 (c .before .before .before .before .match .keys21) (c .before .before .reset .ensures _ _ _ _ _)
+returns-21 c = by-letter 81 (c .before .before .before .before .match .keys21) (c .before .before .muted .ensures _ _ _ _ _)
 
 same-length-35 : tie.Need-same-length-35
 same-length-35 c = search needs
 
 returns-22 : tie.Need-returns-22
-returns-22 c = by-none (c .before .before .before .before .match .rest) (c .before .before .not-known .ensures _ _ _ _ _)
+returns-22 c = by-letter 72 (c .before .before .before .before .match .keys22) (c .before .before .psg-shown .ensures _ _ _ _ _)
+
+same-length-36 : tie.Need-same-length-36
+same-length-36 c = search needs
+
+returns-23 : tie.Need-returns-23
+returns-23 c = by-letter 90 (c .before .before .before .before .match .keys23) (c .before .before .reset .ensures _ _ _ _ _)
+
+same-length-37 : tie.Need-same-length-37
+same-length-37 c = search needs
+
+returns-24 : tie.Need-returns-24
+returns-24 c = by-none (c .before .before .before .before .match .rest) (c .before .before .not-known .ensures _ _ _ _ _)
 
 pub serve-spec : {M : Type 1} → statement M
 serve-spec =
@@ -265,6 +283,8 @@ serve-spec =
     area-given-requires
     list-placed-requires
     list-removed-requires
+    muted-requires
+    psg-shown-requires
     reset-requires
     not-known-requires
     same-length
@@ -323,4 +343,8 @@ serve-spec =
     same-length-34
     returns-21
     same-length-35
-    returns-22)
+    returns-22
+    same-length-36
+    returns-23
+    same-length-37
+    returns-24)

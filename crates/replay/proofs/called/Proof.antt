@@ -2,9 +2,10 @@
 use borrow.Author.Needs.{needs}
 use mathlib.Core.List.{List, []}
 use Prim.Native.Nat.{ℕ}
+use lib.Dec.{eqb}
 use Rattle.editors.specs.declared.Editor.the-variants.{Song, Picture}
 use Rattle.runs.specs.World.{World, worldOf}
-use Rattle.runs.specs.Call.{bc, bd, gate, write, undo, ack, start}
+use Rattle.runs.specs.Call.{bc, bd, gate, write, undo, ack, start, mute}
 use Rattle.runs.proofs.Worlds.{answered, writing, undoing}
 use Rattle.replay.proofs.Asks.{asks-none, by-ask, by-none}
 use Rattle.replay.proofs.called.Statement.{statement}
@@ -40,6 +41,9 @@ undo-requires-2 c κs = search needs
 
 start-requires : tie.Need-start-requires
 start-requires c κs = search needs
+
+mute-requires : tie.Need-mute-requires
+mute-requires c κs = search needs
 
 no-call-requires : tie.Need-no-call-requires
 no-call-requires c κs = search needs
@@ -120,6 +124,13 @@ returns-9 c =
 
 returns-10 : tie.Need-returns-10
 returns-10 c =
+    let s = c .before .before .before in
+    let e = c .mute .ensures in
+    by-ask (mute (s .args .entry .address) (eqb (s .args .entry .value) 1)) (rw (c .before .match .keys10)) (λ ram. e .answer)
+    (λ ram. answered (given s ram) e)
+
+returns-11 : tie.Need-returns-11
+returns-11 c =
     let a = c .before .before .before .args in
     let e = c .no-call .ensures in
     by-none (asks-none (a .owners) (a .entry) (c .before .match .rest)) (e .0) (e .1)
@@ -137,6 +148,7 @@ called-spec =
     page-write-requires-2
     undo-requires-2
     start-requires
+    mute-requires
     no-call-requires
     returns
     returns-2
@@ -151,4 +163,5 @@ called-spec =
     same-length-4
     returns-8
     returns-9
-    returns-10)
+    returns-10
+    returns-11)

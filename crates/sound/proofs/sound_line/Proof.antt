@@ -7,8 +7,10 @@ use mathlib.Core.List.{List}
 use Prim.Native.Nat.{ℕ, _+_, _≤_, _-_}
 use native.Mathlib.Omega.{arith}
 use lib.ListN.{length, length-map, set}
-use Rattle.sound.specs.Line.{loaded, entryOf}
-use Rattle.sound.proofs.Worked.{loads, lineOf, worked, one-more, room, all-worked}
+use Rattle.sound.specs.declared.Channel.{Channel}
+use Rattle.sound.specs.declared.Turn.{Turn}
+use Rattle.sound.specs.Line.{loaded, heard, channelOf, entryOf}
+use Rattle.sound.proofs.Worked.{loads, sat-out, nothing-heard, muted-heard, load-heard, lineOf, worked, one-more, room, all-worked}
 use Rattle.sound.proofs.sound_line.Statement.{statement}
 use Rattle.sound.proofs.sound_line.Tie as tie
 
@@ -56,20 +58,30 @@ add-cycles c =
     record { fits = room _ _ _ (l .n) _ _ _ _ (c .before .of .result) (turn .did) (l .inv .1) (search needs) (c .own-cycles .ensures) }
 
 -- with channel n's turn taken, whatever it does to the PSG
-more : (c : tie.After-own-cycles Inv-loop μ-loop) (psg : List ℕ) →
-    psg ≡ loaded (c .before .before .before .before .before .before .loop .sound .psg) (c .before .before .before .line .result .did) →
-    lineOf
-    (record {
-      channels = set (c .before .before .before .before .before .before .loop .sound .channels) (c .before .before .before .before .before .before .loop .n) (c .before .before .before .line .result .channel);
-      psg = psg;
-    })
-    (set (c .before .before .before .before .before .before .loop .entries) (c .before .before .before .before .before .before .loop .n) (entryOf (c .before .before .before .line .result .did)))
-    (c .before .before .before .before .before .before .loop .cycles + c .own-cycles .result)
-    ≡ worked (c .before .before .before .before .before .before .before .before .args .ram .now) (c .before .before .before .before .before .before .before .before .args .accesses) (c .before .before .before .before .before .before .before .before .args .t1) (c .before .before .before .before .before .before .loop .n + 1)
-more c psg is =
-    let l = c .before .before .before .before .before .before .loop in
-    one-more _ _ _ (l .n) _ _ (l .sound) (l .entries) _ (c .before .before .before .line .result) psg (l .inv .1) (c .before .before .before .line .ensures) (c .before .of .ensures)
-    (c .own-cycles .ensures) is
+module _ (c : tie.After-own-cycles Inv-loop μ-loop) where
+  abbrev place : tie.At-loop Inv-loop μ-loop
+  place = c .before .before .before .before .before .before
+
+  abbrev voice : Channel
+  voice = channelOf (place .loop .sound .channels) (place .loop .n)
+
+  abbrev turn : Turn
+  turn = c .before .before .before .line .result
+
+  more :
+      (psg : List ℕ) → psg ≡ heard voice (place .loop .sound .psg) (turn .did) →
+      lineOf (record { channels = set (place .loop .sound .channels) (place .loop .n) (turn .channel); psg = psg })
+      (set (place .loop .entries) (place .loop .n) (entryOf (turn .did))) (place .loop .cycles + c .own-cycles .result)
+      ≡ worked (place .before .before .args .ram .now) (place .before .before .args .accesses) (place .before .before .args .t1) (place .loop .n + 1)
+  more psg is =
+      one-more _ _ _ (place .loop .n) _ _ (place .loop .sound) (place .loop .entries) _ voice turn psg (place .loop .inv .1) refl
+      (c .before .before .before .line .ensures) (c .before .of .ensures) (c .own-cycles .ensures) is
+
+  -- where the word sets nothing
+  quiet :
+      place .loop .sound .psg ≡ loaded (place .loop .sound .psg) (turn .did) →
+      place .loop .sound .psg ≡ heard voice (place .loop .sound .psg) (turn .did)
+  quiet e = nothing-heard voice (place .loop .sound .psg) (turn .did) e
 
 enum-known-did : tie.Need-enum-known-did Inv-loop μ-loop
 enum-known-did c = search needs
@@ -84,10 +96,15 @@ loop-less : tie.Need-loop-less Inv-loop μ-loop
 loop-less c = omega arith
 
 loop-again : tie.Need-loop-again Inv-loop μ-loop
-loop-again c = (omega arith, more (c .before .before) _ (rw (c .enum-told .given .1)))
+loop-again c = (omega arith, more (c .before .before) _ (quiet (c .before .before) (sat-out _ (turn (c .before .before) .did) (c .enum-told .given .1))))
 
 is-load-requires : tie.Need-is-load-requires Inv-loop μ-loop
 is-load-requires c κs = tt
+
+-- a word that was executed
+module _ (c : tie.After-is-load Inv-loop μ-loop) where
+  abbrev after : tie.After-own-cycles Inv-loop μ-loop
+  after = c .before .before .before .before
 
 add-n-2 : tie.Need-add-n-2 Inv-loop μ-loop
 add-n-2 c = search needs
@@ -96,10 +113,25 @@ loop-less-2 : tie.Need-loop-less-2 Inv-loop μ-loop
 loop-less-2 c = omega arith
 
 loop-again-2 : tie.Need-loop-again-2 Inv-loop μ-loop
-loop-again-2 c = (
-  omega arith,
-  more (c .before .before .before .before .before) _ (loads _ _ _ _ false (c .before .before .before .did .given .1) (sym (not-true _ (c .if1 .taken)) ∙ c .before .is-load .ensures)),
-)
+loop-again-2 c =
+    let o = after (c .before) in (
+      omega arith,
+      more o _
+          (quiet o (loads _ (turn o .did) _ _ false (c .before .before .before .did .given .1) (sym (not-true _ (c .if1 .taken)) ∙ c .before .is-load .ensures))),
+    )
+
+add-n-3 : tie.Need-add-n-3 Inv-loop μ-loop
+add-n-3 c = search needs
+
+loop-less-3 : tie.Need-loop-less-3 Inv-loop μ-loop
+loop-less-3 c = omega arith
+
+loop-again-3 : tie.Need-loop-again-3 Inv-loop μ-loop
+loop-again-3 c =
+    let o = after (c .before .before) in (
+      omega arith,
+      more o _ (muted-heard (place o .before .before .args .ram .now) (voice o) _ (turn o) (o .before .before .before .line .ensures) (c .if2 .taken)),
+    )
 
 cast-sound : tie.Need-cast-sound Inv-loop μ-loop
 cast-sound c = search needs
@@ -110,17 +142,21 @@ cast-sound-2 c = search needs
 element-write-sound : tie.Need-element-write-sound Inv-loop μ-loop
 element-write-sound c = search needs
 
-add-n-3 : tie.Need-add-n-3 Inv-loop μ-loop
-add-n-3 c = search needs
+add-n-4 : tie.Need-add-n-4 Inv-loop μ-loop
+add-n-4 c = search needs
 
-loop-less-3 : tie.Need-loop-less-3 Inv-loop μ-loop
-loop-less-3 c = omega arith
+loop-less-4 : tie.Need-loop-less-4 Inv-loop μ-loop
+loop-less-4 c = omega arith
 
-loop-again-3 : tie.Need-loop-again-3 Inv-loop μ-loop
-loop-again-3 c = (
-  omega arith,
-  more (c .before .before .before .before .before) _ (loads _ _ _ _ true (c .before .before .before .did .given .1) (sym (not-false _ (c .if1 .left)) ∙ c .before .is-load .ensures)),
-)
+loop-again-4 : tie.Need-loop-again-4 Inv-loop μ-loop
+loop-again-4 c =
+    let l = c .before .before in
+    let o = after l in (
+      omega arith,
+      more o _
+          (loads _ (turn o .did) _ _ true (l .before .before .did .given .1) (sym (not-false _ (c .before .if1 .left)) ∙ l .is-load .ensures)
+          ∙ sym (load-heard (place o .before .before .args .ram .now) (voice o) _ (turn o) (o .before .before .before .line .ensures) (c .if2 .left))),
+    )
 
 -- what owning `sound` tells: its first array has three elements
 three : (c : tie.Start Inv-loop μ-loop) → length (c .args .t1 .channels) ≡ 3
@@ -158,10 +194,13 @@ sound-line-spec =
     add-n-2
     loop-less-2
     loop-again-2
-    cast-sound
-    cast-sound-2
-    element-write-sound
     add-n-3
     loop-less-3
     loop-again-3
+    cast-sound
+    cast-sound-2
+    element-write-sound
+    add-n-4
+    loop-less-4
+    loop-again-4
     returns)

@@ -108,11 +108,12 @@ fn of_channel(channel: &Channel) -> String {
         count,
         counter,
         mark,
+        muted,
     } = *channel;
-    let (enabled, interrupt) = (u8::from(enabled), u8::from(interrupt));
+    let [enabled, interrupt, muted] = [enabled, interrupt, muted].map(u8::from);
     format!(
         "enabled={enabled} interrupt={interrupt} address={address:04X} prescale={prescale} \
-         pause={pause} count={count} counter={counter} mark={mark:04X}"
+         pause={pause} count={count} counter={counter} mark={mark:04X} muted={muted}"
     )
 }
 

@@ -58,6 +58,13 @@ pub const WORDS: &[Word] = &[
     word("remove", &[HANDLE], |making, line| {
         making.call(b'X', 0, line.number(0))
     }),
+    word("mute", &[CHANNEL], |making, line| {
+        making.call(b'Q', line.number(0), 1)
+    }),
+    word("unmute", &[CHANNEL], |making, line| {
+        making.call(b'Q', line.number(0), 0)
+    }),
+    word("psg", &[], |making, _| making.call(b'H', 0, 0)),
     word("export", &[], |making, _| making.call(b'E', 0, 0)),
     word("acknowledge", &[], |making, _| making.call(b'A', 0, 0)),
     word("draw", &[ACCESSES], |making, line| {
@@ -107,6 +114,11 @@ const LENGTH: Argument = argument("LENGTH", "a number from 0 to 65535", |digits|
 const HANDLE: Argument = argument("HANDLE", "a number from 0 to 255", |digits| {
     decimal(digits, 255)
 });
+/// One that there is not is the chip's to refuse.
+const CHANNEL: Argument = Argument {
+    name: "CHANNEL",
+    ..LENGTH
+};
 const REGISTER: Argument = argument("REGISTER", "a number from 0 to 31", |digits| {
     decimal(digits, 31)
 });

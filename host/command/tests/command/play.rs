@@ -78,7 +78,9 @@ fn printed() -> String {
         (0x6C01, 0x80),
         (0x6C02, 2),
     ];
-    let still = "enabled=0 interrupt=0 address=0000 prescale=0 pause=0 count=0 counter=0 mark=0000";
+    let still =
+        "enabled=0 interrupt=0 address=0000 prescale=0 pause=0 count=0 counter=0 mark=0000 \
+                 muted=0";
     format!(
         "\
 lines 313
@@ -86,7 +88,7 @@ counted 3 2
 counted 5 1
 counted 9 1
 psg 00 00 00 00 00 00 00 38 00 00 00 00 00 00 00 00
-channel 0 enabled=1 interrupt=0 address=8006 prescale=2 pause=5 count=2 counter=3 mark=8002
+channel 0 enabled=1 interrupt=0 address=8006 prescale=2 pause=5 count=2 counter=3 mark=8002 muted=0
 channel 1 {still}
 channel 2 {still}
 crtc selected=2 r1=40 r4=38 r5=0 r6=25 r9=7 r12=48 r13=0
@@ -121,7 +123,9 @@ fn a_take_of_nothing() {
     let folder = Folder::new();
     let [ram, store, _] = inputs(&folder);
     let take = folder.file("none", b"\0\0\0\0\0\0\0\0PLTK");
-    let still = "enabled=0 interrupt=0 address=0000 prescale=0 pause=0 count=0 counter=0 mark=0000";
+    let still =
+        "enabled=0 interrupt=0 address=0000 prescale=0 pause=0 count=0 counter=0 mark=0000 \
+                 muted=0";
     let export = hexadecimal(&exported(&[(0x6805, 1)]));
     plus(["play", &ram, &store, &take]).prints(&format!(
         "\
@@ -324,6 +328,33 @@ fn files_that_cant_be_read_or_written_are_named() {
     let out = folder.place("missing/out");
     let said = format!("{out}: No such file or directory (os error 2)\n");
     plus(["play", &ram, &store, &take, &out]).fails(1, &said);
+}
+
+/// A mute in a take: its channel's line says so, and no other line.
+#[test]
+fn a_channel_that_is_muted() {
+    let folder = Folder::new();
+    let [ram, store, _] = inputs(&folder);
+    let text = folder.file(
+        "text",
+        b"0 10 1 1\n0 10 2 1\n3 10 2 0\n3 10 3 1\n3 10 256 1\n",
+    );
+    let out = folder.place("muted");
+    plus(["take", &text, &out]).prints("");
+    let muted = plus(["play", &ram, &store, &out]).out;
+    let none = folder.file("none", b"\0\0\0\0\0\0\0\0PLTK");
+    let still = plus(["play", &ram, &store, &none]).out;
+    let channel = |line: &&str| line.starts_with("channel ");
+    let marks = |text: &str| -> Vec<String> {
+        let lines = text.lines().filter(channel);
+        lines
+            .map(|line| line[line.len() - 8..].to_string())
+            .collect()
+    };
+    assert_eq!(marks(&still), [" muted=0"; 3]);
+    assert_eq!(marks(&muted), [" muted=0", " muted=1", " muted=0"]);
+    let lines = muted.replace("muted=1", "muted=0");
+    assert_eq!(lines, still.replace("lines 0\n", "lines 3\ncounted 3 2\n"));
 }
 
 /// The take of a scene leads to what the scene leads to.

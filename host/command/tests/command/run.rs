@@ -176,6 +176,84 @@ fn each_letter_of_the_editors() {
     assert_eq!(ran.status, Some(1));
 }
 
+/// The letters of muting and of the PSG, with their lines worked out by hand.
+#[test]
+fn each_letter_of_muting() {
+    let mut scene = Scene::new();
+    // LOADs of registers 8 and 15: 0F, 0E, 0D; and 0C on two channels.
+    let loads = [0x0F, 0x08, 0x0E, 0x0F, 0x0D, 0x08, 0x0C, 0x08];
+    scene.ram[..8].copy_from_slice(&loads);
+    let psg = |eighth: u8, last: u8| {
+        let mut registers = [0; 16];
+        (registers[8], registers[15]) = (eighth, last);
+        format!("0 {}", hexadecimal(&registers))
+    };
+    let scene = scene
+        .each('B', &UNLOCK)
+        .record('G', 0, 0xB8)
+        // Address and value of H say nothing.
+        .record('H', 0x1234, 0x56)
+        .record('W', 0x6C0F, 1)
+        .record('Q', 0, 0xFF)
+        .record('L', 0, 2)
+        .record('H', 0, 0)
+        // No channels, of which the second has the low byte of one.
+        .record('Q', 3, 0)
+        .record('Q', 0x0100, 0)
+        .record('Q', 0xFFFF, 1)
+        .record('L', 0, 0)
+        .record('H', 0, 0)
+        .record('Q', 0, 0)
+        .record('L', 0, 0)
+        .record('H', 0, 0)
+        // Channel 2 at the fourth word as well, which it alone is heard with.
+        .record('W', 0x6C08, 6)
+        .record('W', 0x6C0F, 5)
+        .record('Q', 0, 2)
+        .record('L', 0, 0)
+        .record('H', 0, 0)
+        .record('Z', 0, 0)
+        .record('H', 0, 0)
+        .record('h', 0, 0)
+        .record('q', 0, 0);
+    let lines = [
+        vec!["0".to_string(); 18],
+        vec![psg(0, 0), "0".into(), "0".into()],
+        vec!["0 12 load 2063 - -".into(), psg(0, 0)],
+        vec!["3".into(), "3".into(), "3".into()],
+        vec!["0 10 load 3854 - -".into(), psg(0, 0), "0".into()],
+        vec!["0 10 load 2061 - -".into(), psg(0x0D, 0)],
+        vec!["0".into(), "0".into(), "0".into()],
+        vec!["0 19 load 2060 - load 2060".into(), psg(0x0C, 0)],
+        vec!["0".into(), psg(0, 0), "bad".into(), "bad".into()],
+    ];
+    let folder = Folder::new();
+    let file = folder.file("mute.scene", &scene.bytes());
+    let ran = plus(["run", &file]);
+    assert_eq!(ran.out, lines.concat().join("\n") + "\n");
+    assert_eq!(ran.status, Some(1));
+}
+
+/// The example's registers, as its comments say them: 0, 7 and 8 are set.
+#[test]
+fn the_example_of_muting() {
+    let scene = repository("examples/mute.scene");
+    let ran = plus(["run".as_ref(), scene.as_os_str()]);
+    assert_eq!((ran.status, &*ran.err), (Some(0), ""));
+    let lines: Vec<&str> = ran.out.lines().collect();
+    let digits = |text: &&str| text.len() == 32 && !text.contains(' ');
+    let told = lines.iter().filter_map(|line| line.strip_prefix("0 "));
+    let psg: Vec<&str> = told.filter(digits).collect();
+    let shown = |first: u8| {
+        let mut registers = [0; 16];
+        (registers[0], registers[7], registers[8]) = (first, 0x38, 0x0F);
+        hexadecimal(&registers)
+    };
+    assert_eq!(psg, [0xEE, 0xEE, 0x9F, 0xEE, 0xEE].map(shown));
+    assert_eq!(lines.iter().filter(|&&line| line == "3").count(), 1);
+    assert!(lines.contains(&"0 64"));
+}
+
 /// The bounds 8000h and 8012h, low byte first.
 const BOUNDS: [u8; 8] = [0x00, 0x80, 0, 0, 0x12, 0x80, 0, 0];
 
@@ -387,6 +465,12 @@ fn recorded() -> (Scene, Vec<[u16; 4]>) {
         .record('W', 0x4000, 0xFF)
         .record('U', 0x1234, 9)
         .record('U', 0, 0)
+        // A mute is noted with 1 or 0, and not where it is refused; the PSG is not.
+        .record('Q', 1, 0x80)
+        .record('H', 0, 0)
+        .record('Q', 3, 1)
+        .record('Q', 0x0100, 1)
+        .record('Q', 2, 0)
         .record('L', 0, 0);
     let unlocking = UNLOCK.map(|byte| [0, 1, 0, byte.into()]);
     let rest = [
@@ -400,6 +484,8 @@ fn recorded() -> (Scene, Vec<[u16; 4]>) {
         [3, 5, 0, 0],
         [3, 4, 0x4000, 0xFF],
         [3, 6, 0, 0],
+        [3, 10, 1, 1],
+        [3, 10, 2, 0],
     ];
     (scene, [&unlocking[..], &rest].concat())
 }
@@ -699,7 +785,7 @@ fn a_take_is_saved_before_anything_is_printed() {
     let words = ["run", &file, "--take", &out];
     let ran = command(words).stdout(writer).output().unwrap();
     assert_eq!(ran.status.code(), Some(0));
-    assert_eq!(plus(["records", &out]).out.lines().count(), 1 + 17 + 10);
+    assert_eq!(plus(["records", &out]).out.lines().count(), 1 + 17 + 12);
     // Where it can't be written, nothing is printed; nor where the table can't, and
     // then the take is left alone.
     let nowhere = folder.place("missing/out");

@@ -110,6 +110,11 @@ fn each_word() {
         ),
         ("remove 0", Scene::new().each('X', &[0])),
         ("remove 255", Scene::new().each('X', &[255])),
+        ("mute 0", Scene::new().record('Q', 0, 1)),
+        ("mute 65535", Scene::new().record('Q', 0xFFFF, 1)),
+        ("unmute 2", Scene::new().record('Q', 2, 0)),
+        ("unmute 0256", Scene::new().record('Q', 256, 0)),
+        ("psg", Scene::new().record('H', 0, 0)),
         ("export", Scene::new().each('E', &[0])),
         ("acknowledge", Scene::new().each('A', &[0])),
         ("draw", Scene::new().each('P', &[0])),
@@ -250,8 +255,8 @@ fn bad_lines() {
     folder.file("odd", &[1, 2, 3]);
     folder.file("store", &[7; STORE + 1]);
     let names = "ram, list, pixels, unlock, map, poke, peek, crtc, mode, lines, undo, \
-                 picture poke, picture peek, picture undo, table, area, place, remove, export, \
-                 acknowledge, draw, forecast, reset";
+                 picture poke, picture peek, picture undo, table, area, place, remove, mute, \
+                 unmute, psg, export, acknowledge, draw, forecast, reset";
     let place = |name: &str| folder.place(name);
     for (line, why) in [
         ("jump 8000", format!("'jump' is none of the words {names}")),
@@ -326,6 +331,19 @@ fn bad_lines() {
             "remove 256",
             "remove takes HANDLE, and '256' is no HANDLE, a number from 0 to 255".into(),
         ),
+        (
+            "mute",
+            "mute takes CHANNEL, and CHANNEL is missing, a number from 0 to 65535".into(),
+        ),
+        (
+            "mute 65536",
+            "mute takes CHANNEL, and '65536' is no CHANNEL, a number from 0 to 65535".into(),
+        ),
+        (
+            "unmute 0 1",
+            "unmute takes CHANNEL, and '1' is too much".into(),
+        ),
+        ("psg 7", "psg takes nothing, and '7' is too much".into()),
         (
             "unlock 1",
             "unlock takes nothing, and '1' is too much".into(),
@@ -544,6 +562,7 @@ fn the_examples() {
         ("processor", 387),
         ("editors", 291),
         ("lists", 234),
+        ("mute", 229),
     ] {
         let text = repository(&format!("examples/{name}.scene"));
         let out = folder.place(name);

@@ -14,9 +14,11 @@ const TEXT: &str = "\
 258 5 0 0
 259 7 25602 31
 259 8 0 0
+259 10 2 1
+260 10 65535 0
 4294967295 6 0 0
 ";
-const BYTES: [[u8; 8]; 9] = [
+const BYTES: [[u8; 8]; 11] = [
     [0, 0, 0, 0, 1, 0, 0, 0xFF],
     [0, 0, 0, 0, 3, 0, 0, 0xB8],
     [0, 0, 0, 0, 9, 0, 0, 0],
@@ -25,12 +27,14 @@ const BYTES: [[u8; 8]; 9] = [
     [2, 1, 0, 0, 5, 0, 0, 0],
     [3, 1, 0, 0, 7, 0x02, 0x64, 31],
     [3, 1, 0, 0, 8, 0, 0, 0],
+    [3, 1, 0, 0, 10, 2, 0, 1],
+    [4, 1, 0, 0, 10, 0xFF, 0xFF, 0],
     [0xFF, 0xFF, 0xFF, 0xFF, 6, 0, 0, 0],
 ];
 
 /// A file of a comment and of the records above.
 fn file(comment: &[u8]) -> Vec<u8> {
-    let end = [&[9, 0, 0, 0, comment.len() as u8, 0, 0, 0][..], b"PLTK"].concat();
+    let end = [&[11, 0, 0, 0, comment.len() as u8, 0, 0, 0][..], b"PLTK"].concat();
     [comment, &BYTES.concat(), &end].concat()
 }
 
@@ -124,7 +128,7 @@ fn a_line_of_another_form_is_wrong_use_and_no_file_touched() {
             ran.fails(2, &said);
         }
         // Also where a record before it is bad.
-        let text = folder.file("bad.txt", &[b"0 10 0 0\n", line].concat());
+        let text = folder.file("bad.txt", &[b"0 11 0 0\n", line].concat());
         plus(["take", &text, &old]).fails(2, &said);
     }
     assert!(!Path::new(&new).exists());
@@ -137,7 +141,9 @@ fn a_bad_record_is_refused_and_no_file_touched() {
     let (new, old) = (folder.place("new"), folder.file("old", b"a take"));
     for (text, bad) in [
         ("0 0 0 0\n", 1),
-        ("0 10 0 0\n", 1),
+        ("0 11 0 0\n", 1),
+        ("0 10 0 2\n", 1),
+        ("0 10 3 1\n0 10 65535 0\n0 10 3 255\n", 3),
         ("0 9 0 1\n", 1),
         ("0 9 16384 0\n", 1),
         ("0 9 0 0\n0 7 16384 9\n0 8 0 1\n", 3),
@@ -187,9 +193,9 @@ fn files_that_are_no_takes() {
         plus(["records", &file]).fails(1, &said);
     }
     // The kind of the third record, the line of the last.
-    for (at, byte, bad) in [(7 + 2 * 8 + 4, 0, 3), (7 + 8 * 8 + 3, 0, 9)] {
+    for (at, byte, bad) in [(7 + 2 * 8 + 4, 0, 3), (7 + 10 * 8 + 3, 0, 11)] {
         let mut bytes = spoilt(at, byte);
-        if bad == 9 {
+        if bad == 11 {
             bytes[at - 3..at].fill(0);
         }
         let file = folder.file("bad.take", &bytes);

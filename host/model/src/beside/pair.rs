@@ -2,7 +2,7 @@
 
 use super::Premises;
 use crate::compare::{Buffers, Call};
-use crate::random::{any_accesses, any_table, put_any_words, Random};
+use crate::random::{any_accesses, any_channel_number, any_table, put_any_words, Random};
 use plus::{Editor, Table, EXPORT, LINE, RAM, STORE, UNLOCK};
 
 /// What the two runs do next.
@@ -247,7 +247,7 @@ impl Making {
             return self.of_lists();
         }
         let r = &mut self.random;
-        match r.below(24) {
+        match r.below(25) {
             0..=11 => self.line(),
             12..=15 => Call::Acknowledge,
             16 => Call::WriteBc(r.byte()),
@@ -259,6 +259,10 @@ impl Making {
                 false => any_table(r),
             }),
             22 => Call::Export { out: EXPORT },
+            23 => Call::Mute {
+                channel: any_channel_number(r),
+                on: r.chance(2),
+            },
             // Lines are refused in mode 3.
             _ => Call::Write7f(0x80 | r.pick(&[0, 1, 2, 3])),
         }

@@ -83,6 +83,8 @@ struct Case {
     apart: u16,
     /// The sprite of the highest number stands leftmost, and not that of the lowest.
     falling: bool,
+    /// All channels are muted.
+    muted: bool,
     placed: Placed,
 }
 
@@ -97,6 +99,7 @@ const fn case(name: &'static str, work: Work, count: usize, sprites: u16, mode: 
         magnification: 0b1111,
         apart: 40,
         falling: false,
+        muted: false,
         placed: Placed::Nothing,
     }
 }
@@ -114,8 +117,12 @@ const fn line(name: &'static str, sprites: u16, mode: u8) -> Case {
     case(name, Work::Line, LINES, sprites, mode)
 }
 
-const CASES: [Case; 40] = [
+const CASES: [Case; 41] = [
     line("line, no sprite", 0, 1),
+    Case {
+        muted: true,
+        ..line("line, no sprite, all muted", 0, 1)
+    },
     line("line, no sprite, mode 0", 0, 0),
     line("line, no sprite, mode 2", 0, 2),
     line("line, 4 sprites", 4, 1),
@@ -301,8 +308,8 @@ fn last_row(case: &Case) -> u8 {
     }
 }
 
-/// 40 characters, 39 rows or fewer, the case's mode and sprites, all channels on, and
-/// a full record.
+/// 40 characters, 39 rows or fewer, the case's mode and sprites, all channels on,
+/// muted or not, and a full record.
 fn set_up<M: UnderTest>(case: &Case) -> M {
     let mut machine = M::open();
     machine.registers(&[(1, 40), (4, last_row(case)), (6, 39), (9, 7), (12, 0x30)]);
@@ -319,6 +326,9 @@ fn set_up<M: UnderTest>(case: &Case) -> M {
         machine.poke(0x6004 + 8 * n, case.magnification);
     }
     machine.poke(0x6C0F, 7);
+    for n in 0..3 {
+        assert_eq!(machine.mute(n, case.muted), 0);
+    }
     for i in 0..PLACES as u16 {
         machine.poke(0x6400 + i % 64, i as u8);
     }

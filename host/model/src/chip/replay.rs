@@ -56,7 +56,8 @@ impl Replay {
             6 => chip.undo(Editor::Song, store),
             7 => chip.page_write(Editor::Picture, store, address, value),
             8 => chip.undo(Editor::Picture, store),
-            _ => chip.start(table),
+            9 => chip.start(table),
+            _ => chip.mute(address, value == 1),
         };
         if answer != answer::DONE {
             self.counts[usize::from(answer)] += 1;

@@ -1,6 +1,6 @@
 //! The three sound channels on one line.
 
-use super::{Access, Channel, Did, Kind, Report, Sound};
+use super::{answer, Access, Channel, Did, Kind, Model, Report, Sound};
 
 /// The word at an address, low byte first. RAM has its full length here.
 pub(super) fn word_at(ram: &[u8], address: u16) -> u16 {
@@ -62,6 +62,7 @@ impl Channel {
         let kind = kind_of(word);
         let low = word & 0x0FFF;
         match kind {
+            Kind::Load if self.muted => {}
             Kind::Load => psg[(low >> 8) as usize] = low as u8,
             Kind::Pause if low == 0 => {}
             Kind::Pause => {
@@ -120,5 +121,16 @@ impl Sound {
             }
         }
         report
+    }
+}
+
+impl Model {
+    /// The host mutes a channel, or lets it be heard again.
+    pub fn mute(&mut self, channel: u16, on: bool) -> u8 {
+        match self.sound.channels.get_mut(usize::from(channel)) {
+            Some(channel) => channel.muted = on,
+            None => return answer::NOTHING_THERE,
+        }
+        answer::DONE
     }
 }

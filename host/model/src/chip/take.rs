@@ -50,6 +50,7 @@ impl Record {
             1..=3 => self.address == 0,
             4 | 7 => true,
             5 | 6 | 8 | 9 => self.address == 0 && self.value == 0,
+            10 => self.value <= 1,
             _ => false,
         }
     }

@@ -61,6 +61,10 @@ pub enum Call {
         out: usize,
     },
     Acknowledge,
+    Mute {
+        channel: u16,
+        on: bool,
+    },
     Line {
         ram: usize,
         store: usize,
@@ -106,7 +110,7 @@ impl Reply {
 }
 
 impl Call {
-    pub const NAMES: [&'static str; 15] = [
+    pub const NAMES: [&'static str; 16] = [
         "reset",
         "write_bc",
         "write_bd",
@@ -120,6 +124,7 @@ impl Call {
         "remove",
         "export",
         "acknowledge",
+        "mute",
         "line",
         "forecast",
     ];
@@ -140,8 +145,9 @@ impl Call {
             Call::Remove(_) => Some(10),
             Call::Export { .. } => Some(11),
             Call::Acknowledge => Some(12),
-            Call::Line { .. } => Some(13),
-            Call::Forecast { .. } => Some(14),
+            Call::Mute { .. } => Some(13),
+            Call::Line { .. } => Some(14),
+            Call::Forecast { .. } => Some(15),
             Call::Ram { .. } => None,
         }
     }
@@ -190,6 +196,7 @@ impl Call {
                 let (number, vector) = machine.acknowledge();
                 Reply::Byte(number, vector)
             }
+            Call::Mute { channel, on } => Reply::Answer(machine.mute(channel, on)),
             Call::Line {
                 ram,
                 store,

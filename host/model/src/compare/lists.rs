@@ -140,6 +140,7 @@ const fn playing(address: u16, mark: u16, counter: u16) -> Channel {
         pause: 0,
         counter,
         mark,
+        muted: false,
     }
 }
 

@@ -3,7 +3,7 @@
 mod lists;
 
 use super::call::{Call, SPARE};
-use crate::random::{any_accesses, any_list, any_table, any_word, Random};
+use crate::random::{any_accesses, any_channel_number, any_list, any_table, any_word, Random};
 use plus::{Editor, Table, EXPORT, LINE, RAM, STORE, UNLOCK};
 
 /// The addresses around the edges of each block of registers.
@@ -44,7 +44,7 @@ impl Writer {
         if self.random.chance(4) {
             self.editor = self.random.pick(&Editor::BOTH);
         }
-        match self.random.below(60) {
+        match self.random.below(62) {
             0..=1 => self.unlock(2),
             2 => self.opening(),
             3..=5 => self.map(),
@@ -65,6 +65,7 @@ impl Writer {
             54 => self.start(),
             55 if self.random.chance(2) => self.keeping_lists(),
             56..=58 => self.lists(),
+            59..=60 => self.mutes(),
             _ if self.random.chance(3) => self.push(Call::Reset),
             _ => self.opening(),
         }
@@ -326,6 +327,15 @@ impl Writer {
         }
     }
 
+    /// Channels muted, or heard again.
+    fn mutes(&mut self) {
+        for _ in 0..1 + self.random.below(3) {
+            let channel = any_channel_number(&mut self.random);
+            let on = self.random.chance(2);
+            self.push(Call::Mute { channel, on });
+        }
+    }
+
     /// Where a list begins: often the same few places, the last word among them.
     fn list_start(&mut self) -> u16 {
         let r = &mut self.random;
@@ -364,6 +374,9 @@ impl Writer {
         self.page_write(0x6C02 + 4 * channel, prescale);
         let others = self.random.byte() & self.random.byte();
         self.page_write(0x6C0F, others | 1 << channel);
+        if self.random.chance(3) {
+            self.mutes();
+        }
         self.lines(60);
     }
 

@@ -112,6 +112,7 @@ pub fn note(call: Call, recorder: &mut Recorder, lent: &mut Buffers) -> bool {
         }
         Call::Undo { editor, store } => recorder.undo(editor, &mut lent.store[..store]),
         Call::Acknowledge => recorder.acknowledge().0,
+        Call::Mute { channel, on } => recorder.mute(channel, on),
         Call::Line {
             ram,
             store,
@@ -152,6 +153,7 @@ fn records_of(calls: &[Call]) -> Vec<Record> {
                 Editor::Song => (kind::UNDO, 0, 0),
                 Editor::Picture => (kind::PICTURE_UNDO, 0, 0),
             },
+            Call::Mute { channel, on } => (kind::MUTE, channel, on.into()),
             Call::Line { .. } => {
                 line += 1;
                 continue;

@@ -226,3 +226,46 @@ impl Fault for TableNotLent {
         replay(ram, store, Table::default(), file)
     }
 }
+
+/// Mutes are passed over.
+pub struct MutesPassedOver;
+
+impl Fault for MutesPassedOver {
+    fn replay(ram: &[u8], store: &mut [u8], table: Table, file: &[u8]) -> Replayed {
+        played_by(ram, store, table, file, |by_hand, records| {
+            for record in records {
+                by_hand.step_to(record.line);
+                if record.kind != kind::MUTE {
+                    by_hand.play(record);
+                }
+            }
+        })
+    }
+}
+
+/// Kind 10 mutes whatever its value is.
+pub struct MutedByValue0;
+
+impl Fault for MutedByValue0 {
+    fn replay(ram: &[u8], store: &mut [u8], table: Table, file: &[u8]) -> Replayed {
+        played_anew(ram, store, table, file, |record| match record.kind {
+            kind::MUTE => Record { value: 1, ..record },
+            _ => record,
+        })
+    }
+}
+
+/// Of the channel that kind 10 mutes 8 bits count.
+pub struct MuteByLowBits;
+
+impl Fault for MuteByLowBits {
+    fn replay(ram: &[u8], store: &mut [u8], table: Table, file: &[u8]) -> Replayed {
+        played_anew(ram, store, table, file, |record| match record.kind {
+            kind::MUTE => Record {
+                address: record.address & 0xFF,
+                ..record
+            },
+            _ => record,
+        })
+    }
+}

@@ -84,9 +84,9 @@ accepts! {
         _ => record,
     };
 
-    /// A record of kind 10 is good.
-    Kind10Accepted: |_, record| match record.kind {
-        10 => Record { kind: 4, ..record },
+    /// A record of kind 11 is good.
+    Kind11Accepted: |_, record| match record.kind {
+        11 => Record { kind: 4, ..record },
         _ => record,
     };
 
@@ -111,6 +111,12 @@ accepts! {
     /// A start may have an address.
     StartWithAddress: |_, record| match record.kind {
         9 => Record { address: 0, ..record },
+        _ => record,
+    };
+
+    /// A mute may have the value 2.
+    MuteWithValue2: |_, record| match (record.kind, record.value) {
+        (10, 2) => Record { value: 1, ..record },
         _ => record,
     };
 
@@ -465,6 +471,43 @@ impl Fault for PictureWriteWithoutAddress {
                 bad: before + 1,
             },
             None => write(comment, records, output),
+        }
+    }
+}
+
+/// A mute of a channel that there is not is bad.
+pub struct MuteOfChannel3Bad;
+
+impl MuteOfChannel3Bad {
+    fn is_bad(record: Record) -> bool {
+        record.kind == 10 && record.address > 2
+    }
+}
+
+impl Fault for MuteOfChannel3Bad {
+    fn take_write(comment: &[u8], records: &[u64], output: &mut [u8]) -> Written {
+        let bad = |&number: &u64| MuteOfChannel3Bad::is_bad(unpack(number));
+        match records.iter().position(bad) {
+            Some(before) => Written {
+                answer: Answer::BadRecord,
+                size: 0,
+                bad: before + 1,
+            },
+            None => write(comment, records, output),
+        }
+    }
+
+    fn take_open(file: &[u8]) -> Opened {
+        let opened = open(file);
+        let bad = |&number: &usize| MuteOfChannel3Bad::is_bad(record_at(file, number).record);
+        match (1..=opened.count).find(bad) {
+            Some(bad) => Opened {
+                answer: Answer::BadRecord,
+                bad,
+                count: 0,
+                offset: 0,
+            },
+            None => opened,
         }
     }
 }

@@ -38,7 +38,7 @@ same! {
     Crtc { selected, registers, counters }
     Video { pri, split_line, split_high, split_low, sscr }
     Sprite { x, y, magnification }
-    Channel { enabled, interrupt, address, prescale, pause, count, counter, mark }
+    Channel { enabled, interrupt, address, prescale, pause, count, counter, mark, muted }
     Interrupts { raster, last_raster, ivr }
     Record { line, kind, address, value }
     Table { palette, sprites, channels }

@@ -17,6 +17,7 @@ mod listing;
 mod lists;
 mod lock;
 mod mend;
+mod mute;
 mod page;
 mod played;
 mod ports;

@@ -1,9 +1,9 @@
-//! Request L8: takes played.
+//! Request L8: takes played, with the kinds that L9 and L13 add.
 
 use crate::played::{off, Played};
 use model::by_hand::ByHand;
 use model::machine::Replay;
-use model::random::{any_table, Random};
+use model::random::{any_channel_number, any_table, Random};
 use model::under_test::ram_with;
 use model::{held, Machine};
 use plus::take::{file_of, kind, Record, COUNTS, RECORD, TRAILER};
@@ -78,6 +78,10 @@ impl Writing {
 
     fn start(self) -> Writing {
         self.record(kind::START, 0, 0)
+    }
+
+    fn mute(self, channel: u16, on: bool) -> Writing {
+        self.record(kind::MUTE, channel, on.into())
     }
 
     /// Rows of 8 lines, 39 of them.
@@ -191,6 +195,47 @@ fn the_second_editors_kinds_and_the_start<M: Machine>() {
     let replay: Replay<M> = take.picture_undo().picture_undo().undo().start().played();
     assert_eq!(replay.counts, counted(&[(9, 1), (10, 1), (15, 5)]));
     assert_eq!(replay.chip.record(Song), []);
+}
+
+// 02, L13: kind 10 mutes the channel in its address if its value is 1, and lets it be
+// heard if it is 0. One above 2 is counted at 3, and changes nothing.
+held!(kind_10_mutes,
+    fails_with MutesPassedOver, MutedByValue0, MuteByLowBits, RefusedNotCounted);
+fn kind_10_mutes<M: Machine>() {
+    // RAM is LOADs of register 8, with data that says which word it is.
+    let words: Vec<u16> = (1..=200).map(|data| 0x0800 | data).collect();
+    let ram = ram_with(0, &words);
+    let take = Writing::mapped()
+        .page(0x6C0F, 0b001)
+        .on(1)
+        .mute(0, true)
+        .on(3)
+        .mute(3, true)
+        .mute(256, false)
+        .mute(0xFFFF, true);
+    let replay: Replay<M> = take.played_on(&ram, &mut [0; STORE]);
+    let sound = replay.chip.state().sound;
+    // The first of three words was heard.
+    assert_eq!((sound.psg[8], sound.channels[0].address), (1, 6));
+    assert_eq!(
+        sound.channels.map(|channel| channel.muted),
+        [true, false, false]
+    );
+    assert_eq!(replay.counts, counted(&[(3, 3)]));
+    let replay: Replay<M> = take
+        .mute(2, true)
+        .on(5)
+        .mute(0, false)
+        .on(6)
+        .undo()
+        .played_on(&ram, &mut [0; STORE]);
+    let sound = replay.chip.state().sound;
+    assert_eq!((sound.psg[8], sound.channels[0].address), (6, 12));
+    assert_eq!(
+        sound.channels.map(|channel| channel.muted),
+        [false, false, true]
+    );
+    assert_eq!(replay.counts, counted(&[(3, 3), (10, 1)]));
 }
 
 held!(lines_come_before_the_call, fails_with LinesAfterTheCall, OneLineMore);
@@ -321,7 +366,7 @@ fn refusals_come_before_anything_is_played<M: Machine>() {
     let last = file.len() - TRAILER - RECORD;
     bad[last + 4] = 0;
     is_refused::<M>(&[0; RAM], STORE, &bad, 13, 21);
-    bad[last - RECORD + 4] = 10;
+    bad[last - RECORD + 4] = 11;
     is_refused::<M>(&[0; RAM], STORE, &bad, 13, 20);
 }
 
@@ -379,7 +424,7 @@ fn any_take(random: &mut Random) -> Writing {
             random.pick(&[0x4000, 0x6000, 0x6400, 0x6800, 0x6C00]),
             random.byte(),
         );
-        take = match random.below(12) {
+        take = match random.below(13) {
             0 => take.bc(random.pick(&[1, 4, 5, 6, 9, 12, 13, 40])),
             1 => take.bd(value),
             2 => take.gate(0x80 | value),
@@ -388,6 +433,7 @@ fn any_take(random: &mut Random) -> Writing {
             7 => take.undo(),
             8..=9 => take.picture(address + random.below(20) as u16, value),
             10 => take.picture_undo(),
+            11 => take.mute(any_channel_number(random), random.chance(2)),
             _ if random.chance(3) => take.start(),
             _ => take,
         };
@@ -397,7 +443,8 @@ fn any_take(random: &mut Random) -> Writing {
 
 held!(a_replay_is_its_calls_made_by_hand,
     fails_with LinesAfterTheCall, RefusedCallEnds, RefusedNotCounted, FirstRecordSkipped, OneLineMore,
-        PictureUndoOfSong, PictureWriteOfSong, TableNotLent);
+        PictureUndoOfSong, PictureWriteOfSong, TableNotLent, MutesPassedOver, MutedByValue0,
+        MuteByLowBits);
 fn a_replay_is_its_calls_made_by_hand<M: Machine>() {
     let mut random = Random(71);
     let mut ram = vec![0; RAM];

@@ -32,7 +32,9 @@ fn executed(sound: &mut Sound, n: usize, word: u16) -> u8 {
     channel.address = channel.address.wrapping_add(2);
     match word >> 12 {
         0 => {
-            sound.psg[usize::from(word >> 8)] = word as u8;
+            if !channel.muted {
+                sound.psg[usize::from(word >> 8)] = word as u8;
+            }
             kind::LOAD
         }
         1 => {

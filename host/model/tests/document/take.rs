@@ -1,4 +1,4 @@
-//! Request L7: takes written and opened, with the kinds that L9 adds.
+//! Request L7: takes written and opened, with the kinds that L9 and L13 add.
 
 use model::random::{any_comment, any_records, Random};
 use model::{held, Machine};
@@ -6,7 +6,7 @@ use plus::take::{Opened, Record, RecordRead, Written, RECORD, TRAILER};
 use plus::Answer;
 
 /// Kinds with a good address and value each.
-const GOOD: [(u8, u16, u8); 9] = [
+const GOOD: [(u8, u16, u8); 10] = [
     (1, 0, 0x7F),
     (2, 0, 0x28),
     (3, 0, 0xB8),
@@ -16,6 +16,7 @@ const GOOD: [(u8, u16, u8); 9] = [
     (7, 0x6400, 0x02),
     (8, 0, 0),
     (9, 0, 0),
+    (10, 2, 1),
 ];
 
 fn record(line: u32, (kind, address, value): (u8, u16, u8)) -> Record {
@@ -179,16 +180,29 @@ fn a_record_as_a_number<M: Machine>() {
 }
 
 held!(each_kind_has_its_parts,
-    fails_with Kind0Accepted, Kind10Accepted, PortWithAddress, UndoWithValue, StartWithValue,
-        StartWithAddress, PictureWriteWithoutAddress);
+    fails_with Kind0Accepted, Kind11Accepted, PortWithAddress, UndoWithValue, StartWithValue,
+        StartWithAddress, PictureWriteWithoutAddress, MuteWithValue2, MuteOfChannel3Bad);
 fn each_kind_has_its_parts<M: Machine>() {
+    let others = [
+        (0, 2),
+        (2, 1),
+        (2, 3),
+        (3, 0),
+        (3, 1),
+        (0xFFFF, 1),
+        (0xFFFF, 0x81),
+    ];
     for kind in 0..=255 {
-        for (address, value) in [(0, 0), (0, 1), (0, 0x80), (1, 0), (0x100, 0), (0x6400, 9)] {
+        for (address, value) in [(0, 0), (0, 1), (0, 0x80), (1, 0), (0x100, 0), (0x6400, 9)]
+            .into_iter()
+            .chain(others)
+        {
             let records = [record(3, (kind, address, value))];
             let good = match kind {
                 1..=3 => address == 0,
                 4 | 7 => true,
                 5 | 6 | 8 | 9 => (address, value) == (0, 0),
+                10 => value <= 1,
                 _ => false,
             };
             match good {
@@ -247,7 +261,7 @@ fn the_first_bad_record_is_told<M: Machine>() {
         for second in place..good.len() {
             let mut records = good.clone();
             records[place].kind = 0;
-            records[second].kind = 10;
+            records[second].kind = 11;
             are_bad::<M>(&records, place + 1);
         }
     }

@@ -9,8 +9,8 @@ pub const WRITE_BD: u8 = 2;
 /// A byte to port 7Fxx.
 pub const WRITE_7F: u8 = 3;
 
-/// A page write of the song editor. It has an address, as has that of the picture
-/// editor, and no other kind.
+/// A page write of the song editor. It has an address, as have that of the picture
+/// editor and a mute, and no other kind.
 pub const PAGE_WRITE: u8 = 4;
 
 /// An acknowledge, which has no value.
@@ -27,3 +27,7 @@ pub const PICTURE_UNDO: u8 = 8;
 
 /// A start, which has no value: the table is no part of a take.
 pub const START: u8 = 9;
+
+/// A channel muted or heard again. Its address is the channel, its value 1 for on and
+/// 0 for off.
+pub const MUTE: u8 = 10;

@@ -18,7 +18,7 @@ pub enum Noted {
 /// A chip that notes the calls made on it as the records of a take, and counts the
 /// lines that pass: a call of [`line`](Recorder::line) is one if it is served, and
 /// none if it is refused. Only writes to the ports and to the page, acknowledges,
-/// undos and starts are ever noted, and refused ones never. Made on a chip after
+/// undos, starts and mutes are ever noted, and refused ones never. Made on a chip after
 /// reset, each after as many lines as its record says, and with the same RAM, store
 /// and table, the calls noted lead to the same state, but for the area for lists,
 /// which a take leaves out. A host that places a list while it records has another
@@ -171,6 +171,14 @@ impl Recorder {
             Editor::Picture => kind::PICTURE_UNDO,
         };
         self.note(kind, 0, 0, |chip| chip.undo(editor, store))
+    }
+
+    /// [`Chip::mute`], noted.
+    #[must_use]
+    pub fn mute(&mut self, channel: u16, on: bool) -> Answer {
+        self.note(kind::MUTE, channel, on.into(), |chip| {
+            chip.mute(channel, on)
+        })
     }
 
     /// [`Chip::line`], counted if it is served.

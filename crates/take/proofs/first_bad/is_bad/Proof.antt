@@ -3,7 +3,7 @@ use borrow.Author.Tests.{not-true, not-false}
 use borrow.Author.Needs.{needs}
 use mathlib.Core.Path.{_≡_, sym, _∙_, ap}
 use mathlib.Core.Bool.{true}
-use Rattle.take.specs.Record.{knownKind, hasAddress, hasValue, absent}
+use Rattle.take.specs.Record.{knownKind, hasAddress, absent, valueFits}
 use Rattle.take.proofs.FirstBad.{kind-bad, address-bad, value-bad, line-bad, not-bad}
 use Rattle.take.proofs.first_bad.is_bad.Statement.{statement}
 use Rattle.take.proofs.first_bad.is_bad.Tie as tie
@@ -21,12 +21,9 @@ address-kept c =
 
 value-kept :
     (c : tie.Else3) →
-    let entry = c .before .before .before .before .before .before .before .before .before .args .entry in
-    absent (hasValue (entry .kind)) (entry .value) ≡ true
-value-kept c =
-    let v = c .before .before .before in
-    let s = v .before .before .before .before .before .before .args in
-    sym (ap (λ h. absent h (s .entry .value)) (v .has-value .ensures)) ∙ sym (c .before .is-absent2 .ensures) ∙ not-false _ (c .if3 .left)
+    let entry = c .before .before .before .before .before .before .before .args .entry in
+    valueFits (entry .kind) (entry .value) ≡ true
+value-kept c = sym (c .before .value-fits .ensures) ∙ not-false _ (c .if3 .left)
 
 known-kind-requires : tie.Need-known-kind-requires
 known-kind-requires c κs = search needs
@@ -48,32 +45,24 @@ returns-2 c =
     address-bad _ _ (kind-known (g .before))
     (sym (ap (λ h. absent h (s .entry .address)) (g .has-address .ensures)) ∙ sym (a .is-absent .ensures) ∙ not-true _ (c .if2 .taken))
 
-has-value-requires : tie.Need-has-value-requires
-has-value-requires c κs = search needs
-
-cast-is-absent : tie.Need-cast-is-absent
-cast-is-absent c = search needs
-
-is-absent-requires-2 : tie.Need-is-absent-requires-2
-is-absent-requires-2 c κs = search needs
+value-fits-requires : tie.Need-value-fits-requires
+value-fits-requires c κs = search needs
 
 returns-3 : tie.Need-returns-3
 returns-3 c =
-    let e = c .before .before .before .before in
-    let s = e .before .before .before .before .before .args in
-    let v = sym (ap (λ h. absent h (s .entry .value)) (c .before .before .before .has-value .ensures)) in
-    value-bad _ _ (kind-known (e .before .before .before)) (address-kept e) (v ∙ sym (c .before .is-absent2 .ensures) ∙ not-true _ (c .if3 .taken))
+    let e = c .before .before in
+    value-bad _ _ (kind-known (e .before .before .before)) (address-kept e) (sym (c .before .value-fits .ensures) ∙ not-true _ (c .if3 .taken))
 
 returns-4 : tie.Need-returns-4
 returns-4 c =
     let e = c .before .before in
-    let d = e .before .before .before .before in
+    let d = e .before .before in
     line-bad _ _ (kind-known (d .before .before .before)) (address-kept d) (value-kept e) (search needs)
 
 returns-5 : tie.Need-returns-5
 returns-5 c =
     let e = c .before .before in
-    let d = e .before .before .before .before in
+    let d = e .before .before in
     not-bad _ _ (kind-known (d .before .before .before)) (address-kept d) (value-kept e) (search needs)
 
 pub is-bad-spec : {M : Type 1} → statement M
@@ -85,9 +74,7 @@ is-bad-spec =
     has-address-requires
     is-absent-requires
     returns-2
-    has-value-requires
-    cast-is-absent
-    is-absent-requires-2
+    value-fits-requires
     returns-3
     returns-4
     returns-5)

@@ -1,6 +1,5 @@
--- The answer, a space and the digits.
+-- The line of 477 bytes, which are never refused.
 use borrow.Author.Needs.{needs}
-use Rattle.text.proofs.Putting.{joined}
 use Rattle.text.proofs.Dumping.{export-line}
 use Rattle.text.proofs.dump.exported.Statement.{statement}
 use Rattle.text.proofs.dump.exported.Tie as tie
@@ -11,38 +10,18 @@ slice-aggregate-export c = search needs
 export-requires : tie.Need-export-requires
 export-requires c κs = search needs
 
-cast-number : tie.Need-cast-number
-cast-number c = search needs
+slice-aggregate-line : tie.Need-slice-aggregate-line
+slice-aggregate-line c = search needs
 
-number-requires : tie.Need-number-requires
-number-requires c κs = search needs
-
-slice-aggregate-put : tie.Need-slice-aggregate-put
-slice-aggregate-put c = search needs
-
-put-requires : tie.Need-put-requires
-put-requires c κs = search needs
-
-slice-aggregate-put-digits : tie.Need-slice-aggregate-put-digits
-slice-aggregate-put-digits c = search needs
-
-put-digits-requires : tie.Need-put-digits-requires
-put-digits-requires c κs = search needs
-
-ended-requires : tie.Need-ended-requires
-ended-requires c κs = search needs
+line-requires : tie.Need-line-requires
+line-requires c κs = search needs
 
 same-length : tie.Need-same-length
 same-length c = search needs
 
 returns : tie.Need-returns
 returns c =
-    let n = c .before .before .before .before .before .before .before .before .before .before .before .before .before .before .before .before .number in
-    let d = c .before .before .before .before .before .before .put-digits in (
-      export-line (c .before .before .before .before .before .before .before .before .before .before .before .before .before .before .before .before .before .before .before .export .ensures) (search needs)
-          (joined (joined (n .ensures .0) (joined (c .before .before .before .before .before .before .before .before .before .before .before .put .ensures) (d .ensures .0))) (c .before .before .ended .ensures .0)),
-      search needs,
-    )
+    (export-line (c .before .before .before .before .before .before .export .ensures) (search needs) (c .before .before .line .ensures .0), search needs)
 
 pub exported-spec : {M : Type 1} → statement M
 exported-spec =
@@ -50,12 +29,7 @@ exported-spec =
     (tie.spec
     slice-aggregate-export
     export-requires
-    cast-number
-    number-requires
-    slice-aggregate-put
-    put-requires
-    slice-aggregate-put-digits
-    put-digits-requires
-    ended-requires
+    slice-aggregate-line
+    line-requires
     same-length
     returns)

@@ -11,11 +11,11 @@ use Rattle.text.proofs.dump.put_digits.Statement.{statement}
 use Rattle.text.proofs.dump.put_digits.Tie as tie
 
 abbrev Inv-loop : tie.InvT-loop
-Inv-loop out₀ at bytes x₀ out x =
-    (x ≤ 954) × (length out ≡ length out₀) × (take (at + x) out ≡ take at out₀ ++ characters (digitAt bytes) x)
+Inv-loop out₀ at bytes digits x₀ out x =
+    (x ≤ digits) × (length out ≡ length out₀) × (take (at + x) out ≡ take at out₀ ++ characters (digitAt bytes) x)
 
 abbrev μ-loop : tie.MeasureT-loop
-μ-loop out₀ at bytes x₀ out x = 954 - x
+μ-loop out₀ at bytes digits x₀ out x = digits - x
 
 loop-holds : tie.Need-loop-holds Inv-loop μ-loop
 loop-holds c = (search needs, search needs, entries-none _ (c .before .before .args .out .now) (c .before .before .args .at))
@@ -55,7 +55,7 @@ same-length c = search needs
 returns : tie.Need-returns Inv-loop μ-loop
 returns c =
     let l = c .before .loop in
-    let all : l .x ≡ 954 = search needs in
+    let all : l .x ≡ c .before .before .before .before .args .digits = search needs in
     (entries-all _ _ (l .out) _ _ (l .x) all (l .inv .2), search needs)
 
 pub put-digits-spec : {M : Type 1} → statement M

@@ -152,6 +152,7 @@ impl<M: Machine> Pair<M> {
             pause: 0,
             counter: 0,
             prescale: random.either(8, 256, 3) as u8,
+            muted: false,
             ..states[0].sound.channels[n]
         };
         if alone {

@@ -1,0 +1,2 @@
+-- 02, L13: a mute mark moves nothing but the PSG.
+pub mod Muting

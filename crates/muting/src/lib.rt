@@ -1,0 +1,1 @@
+// No code: what muting a channel leaves as it is, over runs of calls.
