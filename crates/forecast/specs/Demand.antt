@@ -32,9 +32,9 @@ use Rattle.page.specs.Undo.{newest}
 use Rattle.forecast.specs.Rule.{even, wordsOf}
 
 -- ---- the calls of a run are those of `Call` in the crate `runs`: the line's call, which is the line step where it is served and passes no
--- line where it is refused (02, L11); port writes, page reads and writes, undo, acknowledges; starts; and the calls on placed lists (02,
--- L12). The page calls are those of both editors, and the host may lend other buffers before each of them. The core's own step is a line
--- too
+-- line where it is refused (02, L11); port writes, page reads and writes, undo, acknowledges; starts; the calls on placed lists (02, L12);
+-- mute (02, L13). The page calls are those of both editors, and the host may lend other buffers before each of them. The core's own step
+-- is a line too
 
 -- channel n of the chip
 abbrev pub channel : Chip → ℕ → Channel
