@@ -1,4 +1,7 @@
 // What an order of a scene can ask for: each is done, and a line answers it.
+
+#![tactic(auto)]
+
 ghost use Rattle.std.specs.Prelude.{◌≡◌, List, ℕ, ◌+◌, ◌≤◌, length, take};
 ghost use Rattle.common.specs.Answers.{done};
 ghost use Rattle.editors.specs.Table.{pick};
@@ -15,7 +18,7 @@ use sound::Accesses;
 use text::{dump, lines, paint};
 
 // The chip, the bytes that wait for a start, an area or a list, and how many bytes of output wait.
-#[derive(Drop)]
+#[derive(Clone, Copy)]
 pub struct Machine {
     pub chip: Chip,
     pub waiting: [u8; 16],

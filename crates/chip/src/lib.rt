@@ -1,4 +1,7 @@
 // The chip: its state, and the calls that read and change it.
+
+#![tactic(auto)]
+
 use crtc::{Counters, Registers, Video};
 use editors::Table;
 use lists::Area;
@@ -16,7 +19,7 @@ pub mod table;
 
 // The gate array: the screen mode, and whether the register page is mapped.
 #[repr(C)]
-#[derive(Drop)]
+#[derive(Clone, Copy)]
 pub struct Gate {
     pub mode: u8,
     pub mapped: bool,
@@ -24,7 +27,7 @@ pub struct Gate {
 
 // The 6845: the register that the next data write goes to, the registers, the counters.
 #[repr(C)]
-#[derive(Drop)]
+#[derive(Clone, Copy)]
 pub struct Crtc {
     pub selected: u8,
     pub registers: Registers,
@@ -33,7 +36,7 @@ pub struct Crtc {
 
 // A raster interrupt that waits, whether the last acknowledge was raster, and IVR. A channel's interrupt stands in the channel.
 #[repr(C)]
-#[derive(Drop)]
+#[derive(Clone, Copy)]
 pub struct Interrupts {
     pub raster: bool,
     pub last_raster: bool,
@@ -43,7 +46,7 @@ pub struct Interrupts {
 // What is kept for the editors: the table of who may write what, and for each the record of its page writes that can be taken back,
 // whose places are lent; and the area of RAM for placed lists with its handles, whose places are lent too.
 #[repr(C)]
-#[derive(Drop)]
+#[derive(Clone, Copy)]
 pub struct Editing {
     pub table: Table,
     pub song: Undo,
@@ -53,7 +56,7 @@ pub struct Editing {
 
 // The whole state. The palette has two bytes an entry, low then high. The parts stand so that they leave few bytes between them.
 #[repr(C)]
-#[derive(Drop)]
+#[derive(Clone, Copy)]
 pub struct Chip {
     pub lock: Lock,
     pub gate: Gate,
@@ -68,7 +71,7 @@ pub struct Chip {
 
 // The chip after a call, and its answer number. The chip stands first in every answer, where it is copied whole.
 #[repr(C)]
-#[derive(Drop)]
+#[derive(Clone, Copy)]
 pub struct Answered {
     pub chip: Chip,
     pub answer: u8,
@@ -76,7 +79,7 @@ pub struct Answered {
 
 // An acknowledge's answer: the chip, the number, the vector.
 #[repr(C)]
-#[derive(Drop)]
+#[derive(Clone, Copy)]
 pub struct Acknowledged {
     pub chip: Chip,
     pub answer: u8,
@@ -84,7 +87,7 @@ pub struct Acknowledged {
 }
 
 // A line step's answer: the chip, the number, the report of sound.
-#[derive(Drop)]
+#[derive(Clone, Copy)]
 pub struct Stepped {
     pub chip: Chip,
     pub answer: u8,

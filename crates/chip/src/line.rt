@@ -9,7 +9,7 @@ use crtc::{Counters, Video};
 use sound::{Accesses, Did, Entry, Report, Sound};
 
 // What a line moves: the sound state, the counters, and whether it raises the raster interrupt; with its report.
-#[derive(Drop)]
+#[derive(Clone, Copy)]
 pub struct Moved {
     pub sound: Sound,
     pub counters: Counters,

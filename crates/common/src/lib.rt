@@ -1,5 +1,8 @@
 // What all crates share: the answer numbers, the lengths of buffers, one bit of a number, a byte of a
 // lent buffer, and bytes stored in one.
+
+#![tactic(auto)]
+
 pub mod answer;
 pub mod size;
 

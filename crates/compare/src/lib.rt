@@ -1,4 +1,7 @@
 // Whether a text begins with a word's line, compared in place.
+
+#![tactic(auto)]
+
 ghost use Rattle.std.specs.Prelude.{◌≡◌, [], ◌∷◌, ◌+◌, ◌/◌, ◌%◌, ◌≤◌, ◌<◌, length};
 ghost use Rattle.common.specs.Choice.{if};
 ghost use Rattle.common.specs.Lists.{begins};

@@ -1,4 +1,7 @@
 // The contents of the registers: the bits that each keeps.
+
+#![tactic(auto)]
+
 ghost use Rattle.std.specs.Prelude.{◌≡◌, get_or};
 ghost use Rattle.sound.specs.Line.{channel_of};
 ghost use Rattle.picture.specs.Sprites.{off_sprite, sprite_contents};

@@ -1,11 +1,14 @@
 // The 6845: its registers, its counters, the raster and split compares, and the screen address.
+
+#![tactic(auto)]
+
 ghost use Rattle.std.specs.Prelude.{◌≡◌, false};
 ghost use Rattle.crtc.specs.Registers.{has_register, written};
 ghost use Rattle.crtc.specs.Line.{raster_due, split_due, captured, frame_ends, position_after, address_after, frame_start, next_line, line_of};
 
 // The registers that are kept. A data write stores no more bits than document 01 gives a register; the fields themselves hold any byte.
 #[repr(C)]
-#[derive(Drop)]
+#[derive(Clone, Copy)]
 pub struct Registers {
     pub r1: u8,
     pub r4: u8,
@@ -19,7 +22,7 @@ pub struct Registers {
 // The counters of the current line: row VC, line in the row RC, whether it is an adjust line, its screen
 // address, and the split address that was captured, if one is held.
 #[repr(C)]
-#[derive(Drop)]
+#[derive(Clone, Copy)]
 pub struct Counters {
     pub vc: u8,
     pub rc: u8,
@@ -31,7 +34,7 @@ pub struct Counters {
 
 // The registers of the page that counting uses: PRI, split line and address, SSCR.
 #[repr(C)]
-#[derive(Drop)]
+#[derive(Clone, Copy)]
 pub struct Video {
     pub pri: u8,
     pub split_line: u8,
@@ -41,7 +44,7 @@ pub struct Video {
 }
 
 // Where a line stands in the frame.
-#[derive(Drop)]
+#[derive(Clone, Copy)]
 pub struct Position {
     pub vc: u8,
     pub rc: u8,
@@ -49,7 +52,7 @@ pub struct Position {
 }
 
 // One line's counting: the counters after it, and whether the raster interrupt is raised on it.
-#[derive(Drop)]
+#[derive(Clone, Copy)]
 pub struct Counted {
     pub counters: Counters,
     pub raster: bool,

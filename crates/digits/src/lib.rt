@@ -1,4 +1,7 @@
 // The digits of a number: the character of one, and how many there are.
+
+#![tactic(auto)]
+
 ghost use Rattle.std.specs.Prelude.{◌≡◌, ◌%◌, ◌≤◌, length};
 ghost use Rattle.digits.specs.Digits.{glyph, decimal};
 

@@ -1,4 +1,7 @@
 // Drawing the current line.
+
+#![tactic(auto)]
+
 ghost use Rattle.std.specs.Prelude.{◌≡◌, ◌+◌, ◌*◌, ◌%◌, ◌≤◌, length};
 ghost use Rattle.crtc.specs.Line.{scroll_lines};
 ghost use Rattle.picture.specs.Screen.{row_line};
@@ -14,14 +17,14 @@ use crtc::{Counters, Registers};
 use overlay::{LineSprite, LineSprites, Stretch};
 
 // Where a line is border, which is below `left` and from `right` on.
-#[derive(Drop)]
+#[derive(Clone, Copy)]
 struct Edges {
     left: usize,
     right: usize,
 }
 
 // The main screen on a line: its mode, the screen address, the line in the row, and how many positions the scroll moves it right.
-#[derive(Drop)]
+#[derive(Clone, Copy)]
 struct Main {
     mode: u8,
     address: u16,

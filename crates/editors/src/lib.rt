@@ -1,9 +1,12 @@
 // The two editors, and the table of which of them may write what.
+
+#![tactic(auto)]
+
 ghost use Rattle.std.specs.Prelude.{◌≡◌};
 ghost use Rattle.editors.specs.Table.{editor_by, no_table, holding, names, mine};
 
 // An editor.
-#[derive(Drop)]
+#[derive(Clone, Copy)]
 pub enum Editor {
     Song,
     Picture,
@@ -11,7 +14,7 @@ pub enum Editor {
 
 // Owners as a host gives them: bit n is palette entry, sprite or channel n, and set for the picture editor.
 #[repr(C)]
-#[derive(Drop)]
+#[derive(Clone, Copy)]
 pub struct Owners {
     pub palette: u32,
     pub sprites: u16,
@@ -20,7 +23,7 @@ pub struct Owners {
 
 // The table: whether one holds, and its owners.
 #[repr(C)]
-#[derive(Drop)]
+#[derive(Clone, Copy)]
 pub struct Table {
     pub held: bool,
     pub channels: u8,

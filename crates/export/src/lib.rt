@@ -1,4 +1,7 @@
 // The export: every register's address and contents, three bytes each.
+
+#![tactic(auto)]
+
 ghost use Rattle.std.specs.Prelude.{◌≡◌, ◌+◌, ◌≤◌, ◌<◌, length};
 ghost use Rattle.export.specs.Export.{Exports};
 ghost use Rattle.export.specs.Parts.{address_of, PutsThree};

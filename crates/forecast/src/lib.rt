@@ -1,4 +1,7 @@
 // The forecast of a sound list: its lines and cycles before it plays.
+
+#![tactic(auto)]
+
 ghost use Rattle.std.specs.Prelude.{◌≡◌, [], ◌^◌, ◌≤◌};
 ghost use Rattle.common.specs.Answers.{served};
 ghost use Rattle.forecast.specs.Rule.{lines_of, cycles_of, open_count, answer_of, list_of};
@@ -13,7 +16,7 @@ use sound::Access;
 const LAST_WORD: usize = 65534;
 
 // What the forecast answers: a number of the table, and where it is 0 the list's lines, the least cycles and the most.
-#[derive(Drop)]
+#[derive(Clone, Copy)]
 pub struct Length {
     pub answer: u8,
     pub lines: u64,
@@ -59,7 +62,7 @@ fn open_count(count: u16, word: u16) -> u16
 }
 
 // A cost summed up over the words so far: all of it, and one pass of the words since the last REPEAT.
-#[derive(Drop)]
+#[derive(Clone, Copy)]
 struct Sums {
     total: u64,
     since: u64,
@@ -94,7 +97,7 @@ impl Sums {
 }
 
 // The pass over the words so far: the sums, and the open count.
-#[derive(Drop)]
+#[derive(Clone, Copy)]
 struct Scan {
     lines: Sums,
     cycles: Sums,

@@ -1,4 +1,7 @@
 // The only word whose line a text can begin with.
+
+#![tactic(auto)]
+
 mod scan;
 
 ghost use Rattle.std.specs.Prelude.{◌≡◌};

@@ -1,9 +1,14 @@
 // The line that a program prints of a list: its lines and cycles, or why there are none.
+
+#![tactic(auto)]
+
 use common::answer::DONE;
-use libc::STDOUT_FILENO;
+
+// The descriptor of standard output.
+const STDOUT_FILENO: i32 = 1;
 
 // An answer number, and where it is 0 lines and cycles.
-#[derive(Drop)]
+#[derive(Clone, Copy)]
 pub struct Length {
     pub answer: u8,
     pub lines: u64,

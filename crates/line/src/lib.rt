@@ -1,4 +1,7 @@
 // One call for a line: the current line is drawn, and then the chip stepped.
+
+#![tactic(auto)]
+
 ghost use Rattle.line.specs.Contract.{Shows};
 
 use chip::{Chip, Stepped};

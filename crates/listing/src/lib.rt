@@ -1,4 +1,7 @@
 // A list of words printed as text, and such a text read back.
+
+#![tactic(auto)]
+
 ghost use Rattle.std.specs.Prelude.{◌≡◌, ◌≤◌, leb, length};
 ghost use Rattle.common.specs.Storing.{Puts};
 ghost use Rattle.listing.specs.Text.{text_of};
@@ -12,7 +15,7 @@ use mnemonic::{put_line, width};
 
 // What printing gives: the answer and the bytes written.
 #[repr(C)]
-#[derive(Drop)]
+#[derive(Clone, Copy)]
 pub struct Printed {
     pub answer: u8,
     pub size: usize,
@@ -65,7 +68,7 @@ fn written(words: &[u16], text: &mut [u8]) -> usize
 
 // What reading gives: the answer, the words written, and the number of the first bad line.
 #[repr(C)]
-#[derive(Drop)]
+#[derive(Clone, Copy)]
 pub struct ReadBack {
     pub answer: u8,
     pub count: usize,
@@ -104,7 +107,7 @@ fn refused(answer: u8, line: usize) -> ReadBack
 }
 
 // Whether all of a text is lines of words, and how many such lines it begins with.
-#[derive(Drop)]
+#[derive(Clone, Copy)]
 struct Lines {
     all: bool,
     count: usize,

@@ -1,4 +1,7 @@
 // Lists placed in an area of RAM: the area, where a list fits between the others, and what has one in use.
+
+#![tactic(auto)]
+
 ghost use Rattle.std.specs.Prelude.{◌≡◌, true, false, ◌+◌, ◌%◌, ◌^◌, ◌<◌, ◌≤◌, length};
 ghost use Rattle.lists.specs.Area.{proper, standing, has, Gives};
 ghost use Rattle.lists.specs.Room.{start_of, end_of, place_of};
@@ -13,7 +16,7 @@ use common::size::RAM;
 // The room for lists: how many words lie below its lower and below its higher bound, and which of the 64 handles have a list, a bit
 // each. With both bounds 0 there is none.
 #[repr(C)]
-#[derive(Drop)]
+#[derive(Clone, Copy)]
 pub struct Area {
     pub used: u64,
     pub from: u16,
@@ -21,14 +24,14 @@ pub struct Area {
 }
 
 // What giving the area and removing a list give: the area after it, and the answer.
-#[derive(Drop)]
+#[derive(Clone, Copy)]
 pub struct Changed {
     pub area: Area,
     pub answer: u8,
 }
 
 // What placing gives: the area after it, the answer, and where it is served the list's address and handle.
-#[derive(Drop)]
+#[derive(Clone, Copy)]
 pub struct Placed {
     pub area: Area,
     pub answer: u8,
@@ -59,7 +62,7 @@ fn place_of(address: u32, bytes: u32) -> u32
 }
 
 // How far the search for room has come: the address, and an address below which no list begins that was seen and ends above it.
-#[derive(Drop)]
+#[derive(Clone, Copy)]
 struct Sought {
     address: u32,
     above: u32,

@@ -1,4 +1,7 @@
 // The lock: fed with every byte written to BCxx.
+
+#![tactic(auto)]
+
 ghost use Rattle.std.specs.Prelude.{◌≡◌};
 ghost use Rattle.lock.specs.Machine.{begins, next_stage, Fresh, Fed};
 
@@ -9,7 +12,7 @@ const KEY: [u8; 14] = *b"\xff\x77\xb3\x51\xa8\xd4\x62\x39\x9c\x46\x2b\x15\x8a\xc
 // the last is a zero after a zero or after none; 1: it isn't zero; 2: a zero after one that isn't; from 3 to 16: that,
 // and one more byte of the sequence for each stage.
 #[repr(C)]
-#[derive(Drop)]
+#[derive(Clone, Copy)]
 pub struct Lock {
     pub unlocked: bool,
     pub stage: u8,

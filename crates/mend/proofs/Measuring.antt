@@ -1,6 +1,6 @@
 -- The words in use one by one: their changes, and what the pass that measures has seen.
 use mathlib.Core.Path.{◌≡◌, refl, ap, sym, ◌∙◌}
-use mathlib.Core.Bool.{Bool, true, false, ◌||◌, or_assoc, or_false}
+use mathlib.Core.Bool.{Bool, true, false, ◌||◌, or_assoc, or-false}
 use mathlib.Core.List.{List, [], ◌∷◌, ◌++◌}
 use Prim.Native.Nat.{ℕ, suc, ◌+◌, ◌<◌, ◌≤◌}
 use native.Mathlib.Numerals.{add-one}
@@ -91,4 +91,4 @@ module _ {words : List ℕ} {used changes at : ℕ} {stop : Bool} (s : Seeing wo
   unfolding changes_from has_stop
   seen_all h =
       let e = none_left words used at k h in
-      record { within = k; changing = omega (arith, rw e at s.count); stopping = sym (or_false stop) ∙ rw e at s.stopping }
+      record { within = k; changing = omega (arith, rw e at s.count); stopping = sym (or-false stop) ∙ rw e at s.stopping }

@@ -1,4 +1,7 @@
 // Mends the words of an old list: reserved codes, stray bits, and a STOP after the last where there is none.
+
+#![tactic(auto)]
+
 ghost use Rattle.std.specs.Prelude.{◌≡◌, true, false, [], ◌∷◌, ◌+◌, ◌*◌, ◌≤◌, ◌<◌, length, take, get_or};
 ghost use Rattle.std.proofs.lemmas.List.Edits.{sets};
 ghost use Rattle.words.specs.declared.WordKind.TheVariants.{Pause, Control};
@@ -11,7 +14,7 @@ use words::WordKind;
 
 // One change: the place of the word, from 0, the word that stood there and the one that stands there now.
 #[repr(C)]
-#[derive(Drop)]
+#[derive(Clone, Copy)]
 pub struct Change {
     pub place: u64,
     pub old: u16,
@@ -20,7 +23,7 @@ pub struct Change {
 
 // What mending gives: the answer, how many words are in use afterwards, and how many changes the report has.
 #[repr(C)]
-#[derive(Drop)]
+#[derive(Clone, Copy)]
 pub struct Mended {
     pub answer: u8,
     pub used: usize,
@@ -75,7 +78,7 @@ fn changed(word: u16) -> usize
 }
 
 // What stands among the words in use: how many that mending changes, and whether a STOP.
-#[derive(Drop)]
+#[derive(Clone, Copy)]
 struct Seen {
     changes: usize,
     stop: bool,

@@ -1,4 +1,7 @@
 // The line of a sound word in a text: its width, and the line put at a place of a text.
+
+#![tactic(auto)]
+
 mod print;
 
 ghost use Rattle.std.specs.Prelude.{◌≡◌, ◌/◌, leb, length};

@@ -1,4 +1,7 @@
 // One order of a scene: what its letter asks for is done, and a line answers it.
+
+#![tactic(auto)]
+
 ghost use Rattle.std.specs.Prelude.{◌≡◌, ◌+◌, ◌≤◌, length};
 ghost use Rattle.calls.specs.Orders.{running_of};
 ghost use Rattle.orders.specs.Letters.{Serves};
@@ -7,7 +10,7 @@ use calls::Machine;
 use editors::Editor;
 
 // An order: a letter for what is to be done, an address and a byte.
-#[derive(Drop)]
+#[derive(Clone, Copy)]
 pub struct Order {
     pub op: u8,
     pub address: u16,

@@ -1,4 +1,7 @@
 // The register page: reads, writes with their record, and undo.
+
+#![tactic(auto)]
+
 ghost use Rattle.std.specs.Prelude.{◌≡◌};
 ghost use Rattle.registers.specs.Registers.{register_answer};
 ghost use Rattle.page.specs.Page.{page_answer, read_answer, Writes, Reads};
@@ -15,14 +18,14 @@ use ring::Undo;
 
 // A page read's answer: the number and the byte. It changes nothing.
 #[repr(C)]
-#[derive(Drop)]
+#[derive(Clone, Copy)]
 pub struct ByteRead {
     pub answer: u8,
     pub byte: u8,
 }
 
 // What is asked of the page beside reads: a byte written to an address, or the newest write taken back.
-#[derive(Drop)]
+#[derive(Clone, Copy)]
 enum Edit {
     Write(u16, u8),
     Back,
@@ -30,7 +33,7 @@ enum Edit {
 
 // What an edit changes: a register gets a byte, but a pixel one of its own in the store, and the record goes on. One that is refused
 // has no register.
-#[derive(Drop)]
+#[derive(Clone, Copy)]
 struct Change {
     answer: u8,
     register: Register,

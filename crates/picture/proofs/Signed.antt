@@ -63,7 +63,7 @@ high m (negsuc n) h = cc
 
 -- the number that z's bits are is z
 pub again : (z : ℤ) → mag z < 32768 → to_z w16 (of_z w16 z) ≡ z
-again z h = to_z-of_z (record { sfits = h })
+again z h = to_z-of_z {w = w16} (record { sfits = h })
 
 -- a sprite made anew from numbers of 16 bits has them
 pub made : (x y : ℤ) {k : ℕ} {s : Sprite} → mag x < 32768 → mag y < 32768 →

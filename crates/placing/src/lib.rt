@@ -1,4 +1,7 @@
 // Room for lists in RAM: the area is given, a list is placed in it, and a list that no channel has in use is removed.
+
+#![tactic(auto)]
+
 ghost use Rattle.std.specs.Prelude.{◌≡◌};
 ghost use Rattle.lists.specs.Room.{place_at};
 ghost use Rattle.chip.specs.Editors.{with_lists};
@@ -11,7 +14,7 @@ use sound::{Channel, Sound};
 
 // What placing gives: the chip, the answer, and where it is served the list's address and handle.
 #[repr(C)]
-#[derive(Drop)]
+#[derive(Clone, Copy)]
 pub struct PlacedList {
     pub chip: Chip,
     pub answer: u8,

@@ -1,4 +1,7 @@
 // The C interface: every call under a C name, with structs by value and slices as a pointer and a length.
+
+#![tactic(auto)]
+
 ghost use Rattle.std.specs.Prelude.{◌≡◌};
 ghost use Rattle.chip.specs.Promises.{Answers};
 ghost use Rattle.chip.specs.Interrupts.{Acknowledges};
@@ -38,7 +41,7 @@ use words::WordKind;
 
 // A line's answer, without enums: of each channel the number of what it did, and the low 12 bits of its word.
 #[repr(C)]
-#[derive(Drop)]
+#[derive(Clone, Copy)]
 pub struct PlusStepped {
     pub chip: Chip,
     pub answer: u8,
@@ -49,7 +52,7 @@ pub struct PlusStepped {
 
 // A forecast's answer. The list is that part of RAM which starts at `offset` and has `length` bytes.
 #[repr(C)]
-#[derive(Drop)]
+#[derive(Clone, Copy)]
 pub struct PlusLength {
     pub answer: u8,
     pub lines: u64,
@@ -61,7 +64,7 @@ pub struct PlusLength {
 
 // What the library was built with: its version as one number, and how many bytes a chip's state has in C.
 #[repr(C)]
-#[derive(Drop)]
+#[derive(Clone, Copy)]
 pub struct PlusBuilt {
     pub version: u32,
     pub state: u32,

@@ -1,6 +1,11 @@
 // Reads a RAM image from standard input and prints the forecast of the list at 8000h with prescale 0.
+
+#![tactic(auto)]
+
 use length_line::Length;
-use libc::STDIN_FILENO;
+
+// The descriptor of standard input.
+const STDIN_FILENO: i32 = 0;
 
 fn main() {
     // one byte more than RAM has, so that a longer image is told from RAM

@@ -1,4 +1,7 @@
 // Plays a take for each list of the forecast table, steps on to its STOP, and prints the lines and the channel's own cycles.
+
+#![tactic(auto)]
+
 ghost use Rattle.std.specs.Prelude.{◌<◌};
 
 use chip::{Answered, Chip, Stepped};
@@ -12,7 +15,7 @@ use take::Record;
 const MOST: u64 = 1000;
 
 // A list of the table, with words that are never reached after its STOP, and its prescale.
-#[derive(Drop)]
+#[derive(Clone, Copy)]
 struct Row {
     words: [u16; 5],
     prescale: u8,

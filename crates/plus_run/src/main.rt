@@ -1,19 +1,26 @@
 // Plays calls of the chip from standard input and prints a line for each. The input is RAM, the pixel store, then orders of
 // four bytes: a letter, the address low and high, a value.
+
+#![tactic(auto)]
+
 ghost use Rattle.std.specs.Prelude.{◌≡◌, ◌+◌, ◌/◌, ◌≤◌, length};
 ghost use Rattle.calls.specs.Orders.{running_of};
 ghost use Rattle.plus_run.specs.Blocks.{Takes, Ready, Roomy, Ends, order_served, orders_served};
 
 use calls::Machine;
-use libc::{STDIN_FILENO, STDOUT_FILENO};
 use orders::Order;
 use text::lines;
+
+// The descriptors of standard input and output.
+const STDIN_FILENO: i32 = 0;
+
+const STDOUT_FILENO: i32 = 1;
 
 // More than the longest line of output.
 const LONGEST: usize = 1024;
 
 // A machine, and whether more input may come.
-#[derive(Drop)]
+#[derive(Clone, Copy)]
 struct Progress {
     machine: Machine,
     more: bool,

@@ -1,4 +1,3 @@
 -- Laws of the reader, and what its walks by hand name of the logic.
-pub mod Walk
 pub mod Places
 pub mod HandedOut

@@ -1,4 +1,7 @@
 // A reader over a take that is lent: its records, one by one.
+
+#![tactic(auto)]
+
 ghost use Rattle.std.specs.Prelude.{◌≡◌};
 ghost use Rattle.reader.specs.Reader.{first_place, advanced_at, reader_at, handed, ReadsTake};
 
@@ -6,14 +9,14 @@ use common::answer::DONE;
 use take::Record;
 
 // What stands at a place of a take: a record, or the end.
-#[derive(Drop)]
+#[derive(Clone, Copy)]
 pub enum Found {
     One(Record),
     End,
 }
 
 // What stands at a place, and the next place.
-#[derive(Drop)]
+#[derive(Clone, Copy)]
 pub struct Advanced {
     pub found: Found,
     pub at: usize,

@@ -3,7 +3,7 @@ ghost use Rattle.registers.specs.Address.{video_at, channel_at, sprite_at, regis
 ghost use Rattle.std.specs.Prelude.{◌≡◌, ◌<◌};
 
 // PRI, the split's registers and SSCR.
-#[derive(Drop)]
+#[derive(Clone, Copy)]
 pub enum VideoRegister {
     Pri,
     SplitLine,
@@ -13,7 +13,7 @@ pub enum VideoRegister {
 }
 
 // A sound channel's registers.
-#[derive(Drop)]
+#[derive(Clone, Copy)]
 pub enum ChannelRegister {
     StartLow,
     StartHigh,
@@ -22,7 +22,7 @@ pub enum ChannelRegister {
 
 // A register of the page. `Pixel` has the byte's place in the store, `Sprite` the sprite and the register's place in it, `Palette`
 // the byte's place, `Channel` the channel. `Status` is an address that only reads, as DCSR does; `Empty` has no register.
-#[derive(Drop)]
+#[derive(Clone, Copy)]
 pub enum Register {
     Pixel(usize),
     Sprite(usize, u8),

@@ -1,4 +1,7 @@
 // A take played from reset.
+
+#![tactic(auto)]
+
 ghost use Rattle.std.specs.Prelude.{◌≡◌, ◌-◌, ◌<◌, length};
 ghost use Rattle.chip.specs.Interrupts.{acknowledge_answer, acknowledged};
 ghost use Rattle.chip.specs.Promises.{Answers};
@@ -18,7 +21,7 @@ use take::Record;
 // What replay gives: the chip, the answer, the number of the first bad record, the lines stepped, and how often each refusal number
 // came, at the place of that number.
 #[repr(C)]
-#[derive(Drop)]
+#[derive(Clone, Copy)]
 pub struct Replayed {
     pub chip: Chip,
     pub answer: u8,
@@ -28,7 +31,7 @@ pub struct Replayed {
 }
 
 // How far a replay is, beside the buffers that are lent.
-#[derive(Drop)]
+#[derive(Clone, Copy)]
 struct Player {
     chip: Chip,
     lines: u32,

@@ -1,4 +1,7 @@
 // The undo record: page writes that can be taken back, in a ring of 256 lent places.
+
+#![tactic(auto)]
+
 ghost use Rattle.std.specs.Prelude.{◌≡◌, ◌%◌, length, get_or};
 ghost use Rattle.ring.specs.Ring.{record_of, head, pushed, popped, Puts};
 
@@ -7,7 +10,7 @@ const PLACES: u16 = 256;
 
 // The state of a record: the place that the next entry goes to, and how many entries are kept.
 #[repr(C)]
-#[derive(Drop)]
+#[derive(Clone, Copy)]
 pub struct Undo {
     pub next: u8,
     pub count: u16,

@@ -1,4 +1,7 @@
 // The main screen's part of a line: where its bytes lie, and their pens.
+
+#![tactic(auto)]
+
 mod pens;
 
 ghost use Rattle.std.specs.Prelude.{◌≡◌, ◌+◌, ◌*◌, ◌/◌, ◌<◌, ◌≤◌, length};

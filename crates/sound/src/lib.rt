@@ -1,4 +1,7 @@
 // The three sound channels and the PSG: what one line does to them, and what it reports.
+
+#![tactic(auto)]
+
 ghost use Rattle.std.specs.Prelude.{true, ◌≡◌};
 ghost use Rattle.sound.specs.Channels.{word_at, pause_counted, fetched, looped, paused, repeated, controlled, executed, turn_of};
 ghost use Rattle.sound.specs.Line.{access_by, access_of, disturbance, own_cycles, sound_line};
@@ -8,7 +11,7 @@ use words::WordKind;
 // One channel. `count` is the lines counted towards the next fall of `pause`, `counter` the passes
 // that LOOP has left, `mark` where LOOP goes back to. The LOADs of a `muted` one leave the PSG.
 #[repr(C)]
-#[derive(Drop)]
+#[derive(Clone, Copy)]
 pub struct Channel {
     pub enabled: bool,
     pub interrupt: bool,
@@ -23,7 +26,7 @@ pub struct Channel {
 
 // What the processor does at the 8255 while a channel has its turn: it is off it, it is on it, or its access is itself a write to a
 // PSG register.
-#[derive(Drop)]
+#[derive(Clone, Copy)]
 pub enum Access {
     Off,
     On,
@@ -31,7 +34,7 @@ pub enum Access {
 }
 
 // That of each channel in order, for a line.
-#[derive(Drop)]
+#[derive(Clone, Copy)]
 pub struct Accesses {
     pub first: Access,
     pub second: Access,
@@ -74,27 +77,27 @@ pub fn disturbance(access: Access) -> u8
 }
 
 // What a channel did on a line: sat out, or executed a word of this kind with these low 12 bits.
-#[derive(Drop)]
+#[derive(Clone, Copy)]
 pub enum Did {
     SatOut,
     Executed(WordKind, u16),
 }
 
 // One channel's line: the channel after it, and what it did.
-#[derive(Drop)]
+#[derive(Clone, Copy)]
 pub struct Turn {
     pub channel: Channel,
     pub did: Did,
 }
 
 // A channel's entry in the report.
-#[derive(Drop)]
+#[derive(Clone, Copy)]
 pub struct Entry {
     pub did: Did,
 }
 
 // What a line reports: its cycles, and what each channel did.
-#[derive(Drop)]
+#[derive(Clone, Copy)]
 pub struct Report {
     pub cycles: u8,
     pub entries: [Entry; 3],
@@ -102,14 +105,14 @@ pub struct Report {
 
 // The sound state: the channels and the PSG registers.
 #[repr(C)]
-#[derive(Drop)]
+#[derive(Clone, Copy)]
 pub struct Sound {
     pub channels: [Channel; 3],
     pub psg: [u8; 16],
 }
 
 // One line's sound: the state after it, and its report.
-#[derive(Drop)]
+#[derive(Clone, Copy)]
 pub struct SoundLine {
     pub sound: Sound,
     pub report: Report,

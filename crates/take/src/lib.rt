@@ -1,4 +1,7 @@
 // Takes on disc: the writer and the reader of a file of records.
+
+#![tactic(auto)]
+
 mod bytes;
 mod first_bad;
 mod trailer;
@@ -13,7 +16,7 @@ use common::answer::{BAD_RECORD, DONE, NOTHING_THERE};
 
 // One call of a take.
 #[repr(C)]
-#[derive(Drop)]
+#[derive(Clone, Copy)]
 pub struct Record {
     pub line: u32,
     pub kind: u8,
@@ -45,7 +48,7 @@ pub fn unpack(number: u64) -> Record
 
 // What the writer gives: the answer, the length of the file, and the number of the first bad record.
 #[repr(C)]
-#[derive(Drop)]
+#[derive(Clone, Copy)]
 pub struct Written {
     pub answer: u8,
     pub size: usize,
@@ -71,7 +74,7 @@ pub fn write(comment: &[u8], records: &[u64], output: &mut [u8]) -> Written
 
 // What opening gives: the answer, the number of the first bad record, the record count and the offset of the first record.
 #[repr(C)]
-#[derive(Drop)]
+#[derive(Clone, Copy)]
 pub struct Opened {
     pub answer: u8,
     pub bad: usize,
@@ -121,7 +124,7 @@ pub fn comment(file: &[u8]) -> &[u8]
 
 // What asking for a record gives: the answer, and the record, which is all 0 where it is refused.
 #[repr(C)]
-#[derive(Drop)]
+#[derive(Clone, Copy)]
 pub struct RecordRead {
     pub answer: u8,
     pub entry: Record,

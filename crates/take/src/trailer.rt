@@ -7,7 +7,7 @@ use crate::bytes;
 use common::answer::{DONE, NO_TRAILER, NOT_MET};
 
 // The answer by the trailer alone, and its count and offset where it is met, else 0.
-#[derive(Drop)]
+#[derive(Clone, Copy)]
 pub struct Ends {
     pub answer: u8,
     pub count: usize,

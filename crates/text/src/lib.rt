@@ -1,4 +1,7 @@
 // Text put into a buffer at a place. Each function answers the place after its text.
+
+#![tactic(auto)]
+
 pub mod dump;
 pub mod lines;
 pub mod paint;
