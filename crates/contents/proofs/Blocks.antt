@@ -130,7 +130,8 @@ contents-byte c store (SpriteAt n p) =
     sym (kept_whole (get_or c.sprites n off_sprite) p)
     ∙ ap (sprite_kept p) (sym (unit-byte sprite_bytes off_sprite no_sprite c.sprites n p))
 contents-byte c store (Palette i) = refl
-contents-byte c store (VideoAt v) = elim v [ Pri ↦ refl | SplitLine ↦ refl | SplitHigh ↦ refl | SplitLow ↦ refl | Sscr ↦ refl ]
+contents-byte c store (VideoAt v) =
+    elim v as (λ k. contents c store (VideoAt k) ≡ bits_of (VideoAt k) (byte_at (bytes_of c store) (place_of (VideoAt k)))) [ Pri ↦ refl | SplitLine ↦ refl | SplitHigh ↦ refl | SplitLow ↦ refl | Sscr ↦ refl ]
 contents-byte c store Ivr = refl
 contents-byte c store Converter = refl
 contents-byte c store (ChannelAt n r) = of_channel_lem c store n r
@@ -235,9 +236,9 @@ at_place : (x : Register) → at (place_of x).block (place_of x).unit (place_of 
 unfolding at video_of channel_reg
 at_place (Pixel i) = refl
 at_place (Palette i) = refl
-at_place (VideoAt v) = ap VideoAt (elim v [ Pri ↦ refl | SplitLine ↦ refl | SplitHigh ↦ refl | SplitLow ↦ refl | Sscr ↦ refl ])
+at_place (VideoAt v) = ap VideoAt (elim v as (λ k. video_of (video_place k) ≡ k) [ Pri ↦ refl | SplitLine ↦ refl | SplitHigh ↦ refl | SplitLow ↦ refl | Sscr ↦ refl ])
 at_place Ivr = refl
-at_place (ChannelAt n r) = ap (ChannelAt n) (elim r [ StartLow ↦ refl | StartHigh ↦ refl | Prescale ↦ refl ])
+at_place (ChannelAt n r) = ap (ChannelAt n) (elim r as (λ k. channel_reg (channel_place k) ≡ k) [ StartLow ↦ refl | StartHigh ↦ refl | Prescale ↦ refl ])
 at_place (SpriteAt n p) = refl
 at_place Converter = refl
 at_place Dcsr = refl

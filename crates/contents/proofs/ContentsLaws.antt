@@ -37,9 +37,11 @@ kept_again : (x : Register) (b v : ℕ) → bits_of x (byte_put x b v) ≡ byte_
 kept_again (Pixel i) b v = refl
 kept_again (Palette i) b v = kept-twice i b
 kept_again (VideoAt r) b v =
-    elim r [ Pri ↦ refl | SplitLine ↦ refl | SplitHigh ↦ mod-mod b 64 | SplitLow ↦ refl | Sscr ↦ refl ]
+    elim r as (λ k. bits_of (VideoAt k) (byte_put (VideoAt k) b v) ≡ byte_put (VideoAt k) b v)
+    [ Pri ↦ refl | SplitLine ↦ refl | SplitHigh ↦ mod-mod b 64 | SplitLow ↦ refl | Sscr ↦ refl ]
 kept_again Ivr b v = refl
-kept_again (ChannelAt n r) b v = elim r [ StartLow ↦ omega arith | StartHigh ↦ refl | Prescale ↦ refl ]
+kept_again (ChannelAt n r) b v =
+    elim r as (λ k. bits_of (ChannelAt n k) (byte_put (ChannelAt n k) b v) ≡ byte_put (ChannelAt n k) b v) [ StartLow ↦ omega arith | StartHigh ↦ refl | Prescale ↦ refl ]
 kept_again (SpriteAt n p) b v = sprite-kept p b
 kept_again Converter b v = refl
 kept_again Dcsr b v = refl
@@ -63,7 +65,8 @@ module _ (c : Chip) (store : List ℕ) (w : Widths c) (pixels : length store ≡
   place_set : (x : Register) → Holds x → byte_at (set_at (bytes_of c store) (place_of x) b) (place_of x) ≡ b
   place_set (Pixel i) h = get_or-set_same store i b 0 (omega arith)
   place_set (Palette i) h = get_or-set_same c.palette i b 0 (omega (arith, w.entries))
-  place_set (VideoAt v) h = elim v [ Pri ↦ refl | SplitLine ↦ refl | SplitHigh ↦ refl | SplitLow ↦ refl | Sscr ↦ refl ]
+  place_set (VideoAt v) h =
+      elim v as (λ k. byte_at (set_at (bytes_of c store) (place_of (VideoAt k)) b) (place_of (VideoAt k)) ≡ b) [ Pri ↦ refl | SplitLine ↦ refl | SplitHigh ↦ refl | SplitLow ↦ refl | Sscr ↦ refl ]
   place_set Ivr h = refl
   place_set (ChannelAt n r) h =
       unit-set channel_bytes c.sound.channels n (channel_place r) b (omega (arith, w.three)) (λ a. channel-place r)

@@ -249,7 +249,7 @@ contents-small c store w s (Pixel i) = s.each i
 contents-small c store w s (SpriteAt n p) = contents-byte (get_or c.sprites n off_sprite) p
 contents-small c store w s (Palette i) = kept_byte i (get_or c.palette i 0) (w.colours i)
 contents-small c store w s (VideoAt v) =
-    elim v [
+    elim v as (λ k. contents c store (VideoAt k) < 256) [
       | Pri ↦ w.video.pri
       | SplitLine ↦ w.video.split_line_fits
       | SplitHigh ↦ omega arith
@@ -259,7 +259,8 @@ contents-small c store w s (VideoAt v) =
 contents-small c store w s Ivr = w.ivr
 contents-small c store w s Converter = omega arith
 contents-small c store w s (ChannelAt n r) =
-    elim r [ StartLow ↦ omega arith | StartHigh ↦ omega (arith, (w.channel n).address) | Prescale ↦ (w.channel n).prescale ]
+    elim r as (λ k. contents c store (ChannelAt n k) < 256)
+    [ StartLow ↦ omega arith | StartHigh ↦ omega (arith, (w.channel n).address) | Prescale ↦ (w.channel n).prescale ]
 contents-small c store w s Dcsr = omega arith
 contents-small c store w s Status = omega arith
 contents-small c store w s Empty = omega arith
