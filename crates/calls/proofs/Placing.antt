@@ -16,7 +16,7 @@ use Rattle.placing.specs.Contract.{GivesArea, PlacesList}
 use Rattle.runs.specs.World.{World, world_of, roomed}
 use Rattle.runs.specs.Call.{place, placed, Reply}
 use Rattle.runs.specs.Run as run
-use Rattle.runs.proofs.Calls.{Fixed, fixed, lending}
+use Rattle.runs.proofs.Calls.{Fixed, fixed, lending, lending_mut}
 use Rattle.text.specs.Lines.{one_line, three_line}
 use Rattle.calls.specs.declared.Machine.{Machine}
 use Rattle.calls.specs.Orders.{running_of, gives, places, number_in, length_in, copied, told_line, Does}
@@ -57,7 +57,7 @@ pub placing :
     (w : World) {list slots' ram' : List ℕ} {r : PlacedList} → PlacesList w.chip w.lent.slots w.lent.ram list slots' ram' r →
     Fixed w (place list) (record { answer = r.answer; told = placed r.address r.handle }) (roomed w r.chip ram' slots')
 placing w {list} {slots'} {ram'} {r} k =
-    fixed (run.place lifetimes (lending w.lent.slots) (lending w.lent.ram) (lending list) slots' ram' r refl refl k)
+    fixed (run.place lifetimes (lending_mut w.lent.slots) (lending_mut w.lent.ram) (lending list) slots' ram' r refl refl k)
 
 -- so does the order, with the list that it copies out
 pub placed-list :

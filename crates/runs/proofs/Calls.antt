@@ -6,7 +6,7 @@ use Prim.Native.Nat.{ℕ}
 use lib.Dec.{eqb}
 use lib.ListN.{length, length-replicate, replicate}
 use contract.Lifetimes.{Lfts}
-use denote.Ref.{Bor}
+use denote.Ref.{Bor, MutBor}
 use borrow.Author.Tests.{eqb-true, eqb-false, eq-eqb, ne_eqb}
 use Rattle.common.specs.Answers.{done, served}
 use Rattle.common.specs.Choice.{if}
@@ -200,9 +200,12 @@ taken {w} (run.undo κs e store places store' r s p l) =
 
 -- ---- every call can be made on every world with 256 places for each editor
 
--- a buffer as it is lent, and a lifetime
+-- a buffer as it is lent to be read, and to be written, and a lifetime
 abbrev pub lending : List ℕ → Bor (List ℕ)
 lending bytes = record { ref_ptr = (0, 0); now = bytes }
+
+abbrev pub lending_mut : List ℕ → MutBor (List ℕ)
+lending_mut bytes = record { ref_ptr = (0, 0); ghost_name = 0; now = bytes }
 
 abbrev pub lifetime : Lfts 1
 lifetime = ([], tt)
@@ -247,7 +250,7 @@ way w (write e a b) h =
       reply = _;
       after = _;
       made =
-          run.write lifetimes e (lending w.lent.store) (lending (places_of w.lent e)) _ _ a b _ refl refl
+          run.write lifetimes e (lending_mut w.lent.store) (lending_mut (places_of w.lent e)) _ _ a b _ refl refl
           (write-possible w.chip e w.lent.store (places_of w.lent e) a b (h e));
     }
 way w (undo e) h =
@@ -255,7 +258,7 @@ way w (undo e) h =
       reply = _;
       after = _;
       made =
-          run.undo lifetimes e (lending w.lent.store) (lending (places_of w.lent e)) _ _ refl refl
+          run.undo lifetimes e (lending_mut w.lent.store) (lending (places_of w.lent e)) _ _ refl refl
           (undo-possible w.chip e w.lent.store (places_of w.lent e));
     }
 way w ack h =
@@ -269,7 +272,7 @@ way w (line a n) h =
       reply = _;
       after = _;
       made =
-          run.line three-lifetimes (lending w.lent.ram) (lending w.lent.store) (lending (replicate n 0)) _ a n _ refl refl (length-replicate n 0)
+          run.line three-lifetimes (lending w.lent.ram) (lending w.lent.store) (lending_mut (replicate n 0)) _ a n _ refl refl (length-replicate n 0)
           (line-possible w.chip w.lent.ram w.lent.store (replicate n 0) a);
     }
 way w (step a) h =
@@ -286,7 +289,7 @@ way w (place list) h =
       reply = _;
       after = _;
       made =
-          run.place three-lifetimes (lending w.lent.slots) (lending w.lent.ram) (lending list) p.places-after p.ram-after
+          run.place three-lifetimes (lending_mut w.lent.slots) (lending_mut w.lent.ram) (lending list) p.places-after p.ram-after
           (record {
             chip = with_lists w.chip p.result.area;
             answer = p.result.answer;
@@ -312,6 +315,6 @@ pub placed-world :
 placed-world w list {slots'} {ram'} {r} holds =
     sym
     (fixed
-    (run.place three-lifetimes (lending w.lent.slots) (lending w.lent.ram) (lending list) slots' ram'
+    (run.place three-lifetimes (lending_mut w.lent.slots) (lending_mut w.lent.ram) (lending list) slots' ram'
     (record { chip = with_lists w.chip r.area; answer = r.answer; address = r.address; handle = r.handle }) refl refl
     (record { places-list = holds; rest = refl }))).world_is

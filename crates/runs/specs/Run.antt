@@ -1,7 +1,7 @@
 -- Calls made one after the other, each known by its contract alone, as a caller learns it.
 use Rattle.std.specs.Prelude.{◌≡◌, Bool, List, [], ◌∷◌, map, ℕ, length}
 use contract.Lifetimes.{Lfts}
-use denote.Ref.{MutBor, at_last}
+use denote.Ref.{Bor, MutBor, at_last}
 use Rattle.common.specs.Answers.{done}
 use Rattle.editors.specs.declared.Editor.{Editor}
 use Rattle.editors.specs.declared.Owners.{Owners}
@@ -44,7 +44,7 @@ pub data Makes (w : World) : Call → Reply → World → Type 0 where
       write-7f.Learnt tt (w.chip, (b, tt)) r (w.chip, (b, tt)) →
       Makes w (call.gate b) (number r.answer) (with_chip w r.chip)
   read :
-      (κs : Lfts 1) (e : Editor) (store : MutBor (List ℕ)) (a bus : ℕ) (r : ByteRead) → store.now ≡ w.lent.store →
+      (κs : Lfts 1) (e : Editor) (store : Bor (List ℕ)) (a bus : ℕ) (r : ByteRead) → store.now ≡ w.lent.store →
       page-read.Learnt κs (w.chip, (e, (store, (a, (bus, tt))))) r (w.chip, (e, (store, (a, (bus, tt))))) →
       Makes w (call.read e a bus) (record { answer = r.answer; told = byte r.byte }) w
   write :
@@ -54,7 +54,7 @@ pub data Makes (w : World) : Call → Reply → World → Type 0 where
       (w.chip, (e, (at_last store store', (at_last places places', (a, (b, tt)))))) →
       Makes w (call.write e a b) (number r.answer) (edited w e r.chip store' places')
   undo :
-      (κs : Lfts 2) (e : Editor) (store places : MutBor (List ℕ)) (store' : List ℕ) (r : Answered) →
+      (κs : Lfts 2) (e : Editor) (store : MutBor (List ℕ)) (places : Bor (List ℕ)) (store' : List ℕ) (r : Answered) →
       store.now ≡ w.lent.store → places.now ≡ places_of w.lent e →
       page-undo.Learnt κs (w.chip, (e, (store, (places, tt)))) r (w.chip, (e, (at_last store store', (places, tt)))) →
       Makes w (call.undo e) (number r.answer) (edited w e r.chip store' (places_of w.lent e))
@@ -62,12 +62,12 @@ pub data Makes (w : World) : Call → Reply → World → Type 0 where
       (r : Acknowledged) → acknowledge.Learnt tt (w.chip, tt) r (w.chip, tt) →
       Makes w call.ack (record { answer = r.answer; told = vector r.vector }) (with_chip w r.chip)
   line :
-      (κs : Lfts 3) (ram store line : MutBor (List ℕ)) (line' : List ℕ) (a : Accesses) (n : ℕ) (r : Stepped) →
+      (κs : Lfts 3) (ram store : Bor (List ℕ)) (line : MutBor (List ℕ)) (line' : List ℕ) (a : Accesses) (n : ℕ) (r : Stepped) →
       ram.now ≡ w.lent.ram → store.now ≡ w.lent.store → length line.now ≡ n →
       line-shown.Learnt κs (w.chip, (ram, (store, (line, (a, tt))))) r (w.chip, (ram, (store, (at_last line line', (a, tt))))) →
       Makes w (call.line a n) (record { answer = r.answer; told = report r.report }) (with_chip w r.chip)
   step :
-      (κs : Lfts 1) (ram : MutBor (List ℕ)) (a : Accesses) (r : Stepped) → ram.now ≡ w.lent.ram →
+      (κs : Lfts 1) (ram : Bor (List ℕ)) (a : Accesses) (r : Stepped) → ram.now ≡ w.lent.ram →
       chip-step.Learnt κs (w.chip, (ram, (a, tt))) r (w.chip, (ram, (a, tt))) →
       Makes w (call.step a) (record { answer = r.answer; told = report r.report }) (with_chip w r.chip)
   start :
@@ -77,12 +77,12 @@ pub data Makes (w : World) : Call → Reply → World → Type 0 where
       (from upto : ℕ) (r : Answered) → placing-area.Learnt tt (w.chip, (from, (upto, tt))) r (w.chip, (from, (upto, tt))) →
       Makes w (call.area from upto) (number r.answer) (with_chip w r.chip)
   place :
-      (κs : Lfts 3) (slots ram list : MutBor (List ℕ)) (slots' ram' : List ℕ) (r : PlacedList) →
+      (κs : Lfts 3) (slots ram : MutBor (List ℕ)) (list : Bor (List ℕ)) (slots' ram' : List ℕ) (r : PlacedList) →
       slots.now ≡ w.lent.slots → ram.now ≡ w.lent.ram →
       placing-place.Learnt κs (w.chip, (slots, (ram, (list, tt)))) r (w.chip, (at_last slots slots', (at_last ram ram', (list, tt)))) →
       Makes w (call.place list.now) (record { answer = r.answer; told = placed r.address r.handle }) (roomed w r.chip ram' slots')
   remove :
-      (κs : Lfts 1) (slots : MutBor (List ℕ)) (handle : ℕ) (r : Answered) → slots.now ≡ w.lent.slots →
+      (κs : Lfts 1) (slots : Bor (List ℕ)) (handle : ℕ) (r : Answered) → slots.now ≡ w.lent.slots →
       placing-remove.Learnt κs (w.chip, (slots, (handle, tt))) r (w.chip, (slots, (handle, tt))) →
       Makes w (call.remove handle) (number r.answer) (with_chip w r.chip)
   mute :
