@@ -4,7 +4,6 @@ use mathlib.Core.List.{List, [], ◌∷◌, ◌++◌}
 use Prim.Native.Nat.{ℕ, zero, suc, ◌+◌, ◌%◌, ◌<◌}
 use native.Mathlib.Nat.{zero-add, add-zero, suc-add, add-suc}
 use native.Mathlib.Numerals.{add-one}
-use contract.Lifetimes.{Lfts}
 use lib.ListN.{length, get_or, set, take}
 use lib.Seq.{take-suc-set}
 use Rattle.common.specs.Lists.{listed}
@@ -16,7 +15,7 @@ use Rattle.placing.specs.Contract.{GivesArea, PlacesList}
 use Rattle.runs.specs.World.{World, world_of, roomed}
 use Rattle.runs.specs.Call.{place, placed, Reply}
 use Rattle.runs.specs.Run as run
-use Rattle.runs.proofs.Calls.{Fixed, fixed, lending, lending_mut}
+use Rattle.runs.proofs.Calls.{Fixed, fixed}
 use Rattle.text.specs.Lines.{one_line, three_line}
 use Rattle.calls.specs.declared.Machine.{Machine}
 use Rattle.calls.specs.Orders.{running_of, gives, places, number_in, length_in, copied, told_line, Does}
@@ -50,14 +49,11 @@ pub given-area :
 given-area t k e f ram store song picture slots = answers t (rw (e, f) at k) ram store song picture slots refl refl
 
 -- placing does what its promise says of the world
-lifetimes : Lfts 3
-lifetimes = ([], ([], ([], tt)))
-
 pub placing :
     (w : World) {list slots' ram' : List ℕ} {r : PlacedList} → PlacesList w.chip w.lent.slots w.lent.ram list slots' ram' r →
     Fixed w (place list) (record { answer = r.answer; told = placed r.address r.handle }) (roomed w r.chip ram' slots')
 placing w {list} {slots'} {ram'} {r} k =
-    fixed (run.place lifetimes (lending_mut w.lent.slots) (lending_mut w.lent.ram) (lending list) slots' ram' r refl refl k)
+    fixed (run.place list slots' ram' r k)
 
 -- so does the order, with the list that it copies out
 pub placed-list :

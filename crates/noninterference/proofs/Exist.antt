@@ -11,7 +11,7 @@ use Rattle.editors.specs.declared.Table.{Table}
 use Rattle.editors.specs.Table.{other, holding}
 use Rattle.chip.specs.Reset.{reset_chip}
 use Rattle.chip.specs.Editors.{started}
-use Rattle.chip.proofs.start.reset.Reads as reset
+use Rattle.chip.specs.Reset.{Reset}
 use Rattle.runs.specs.World.{World, Loan}
 use Rattle.runs.specs.Call.{Call, read, write, undo, start, remove, Typed, world_after}
 use Rattle.runs.specs.Run.{Run, ended, on, Each, made_over, world_over}
@@ -36,7 +36,7 @@ start-hands : (o : Owners) → HandsOn (start o)
 start-hands o = record { lends = λ l q. differ cc }
 
 pub session-after :
-    (o : Owners) (begun : World) → reset.Learnt tt tt begun.chip tt → AllPlaces begun →
+    (o : Owners) (begun : World) → Reset begun.chip → AllPlaces begun →
     Session (holding o) (world_after begun (start o))
 unfolding started reset_chip
 session-after o begun fresh places =

@@ -24,7 +24,7 @@ use Rattle.runs.specs.Call.{undo, Reply, number}
 use Rattle.runs.specs.Run as run
 use Rattle.runs.specs.Run.{Made, Makes}
 use Rattle.runs.specs.Trace.{Handed, lent_on, Snapshot, Trace, Restored}
-use Rattle.runs.proofs.Calls.{by_answer, fixed, lending, lending_mut, lifetimes}
+use Rattle.runs.proofs.Calls.{by_answer, fixed}
 use Rattle.runs.proofs.Views.{newest_of}
 use Rattle.runs.proofs.Within.{call-widths}
 use Rattle.runs.proofs.Traces.{knows}
@@ -118,7 +118,7 @@ makes :
 makes {ed = ed} {store' = store'} {r = r} {w = w} u e h =
     let s = ap (λ (x : Handed). x.store) h in
     let p = ap (λ (x : Handed). x.places) h in
-    run.undo lifetimes ed (lending_mut w.lent.store) (lending (places_of w.lent ed)) store' r refl refl (rw (e, s, p) u)
+    run.undo ed store' r (rw (e, s, p) u)
 
 pub told :
     {c : Chip} {ed : Editor} {store places store' : List ℕ} {r : Answered} → Undoes c ed store places store' r →

@@ -7,7 +7,7 @@ use Rattle.lists.specs.Area.{no_lists}
 use Rattle.chip.specs.Editors.{lists_of}
 use Rattle.chip.specs.Reset.{reset_chip}
 use Rattle.chip.specs.Step.{stepped, counters_stepped}
-use Rattle.chip.proofs.start.reset.Reads as reset
+use Rattle.chip.specs.Reset.{Reset}
 use Rattle.runs.specs.Call.{Call, step}
 use Rattle.runs.specs.World.{World}
 use Rattle.runs.specs.Run.{made_over, world_over}
@@ -46,7 +46,7 @@ unfolding stepped counters_stepped
 calls_unseen = each-call Unseen (record { reply = λ s w. refl; next = λ s w. refl; area = λ w. refl }) (λ c h u. u)
 
 pub hand_possible :
-    (w : World) (o : Owners) (rs : List Record) → reset.Learnt tt tt w.chip tt → AllPlaces w →
+    (w : World) (o : Owners) (rs : List Record) → Reset w.chip → AllPlaces w →
     ByHand w.lent.ram w.lent.store w.lent.song w.lent.picture o rs (made_over w (calls_from o 0 rs))
     (world_over w (calls_from o 0 rs))
 hand_possible w o rs fresh whole =

@@ -5,8 +5,6 @@ use mathlib.Core.List.{List, []}
 use Prim.Native.Nat.{ℕ}
 use lib.Dec.{eqb}
 use lib.ListN.{length, length-replicate, replicate}
-use contract.Lifetimes.{Lfts}
-use denote.Ref.{Bor, MutBor}
 use borrow.Author.Tests.{eqb-true, eqb-false, eq-eqb, ne_eqb}
 use Rattle.common.specs.Answers.{done, served}
 use Rattle.common.specs.Choice.{if}
@@ -107,56 +105,56 @@ fixed {w} (run.bd b r l) =
     record { reply-is = rw l.answer; world_is = rw l.chip (chip-served (data_answer w.chip) w (data_written w.chip b)) }
 fixed {w} (run.gate b r l) =
     record { reply-is = rw l.answer; world_is = rw l.chip (chip-served (gate_answer b) w (gate_written w.chip b)) }
-fixed {w} (run.read κs e store a bus r s l) =
-    record { reply-is = rw (l.answer, l.byte, s); world_is = by_answer (λ v. w ≡ v) w (read e a bus) (λ z. refl) refl }
-fixed {w} (run.write κs e store places store' places' a b r s p l) =
+fixed {w} (run.read e a bus r l) =
+    record { reply-is = rw (l.answer, l.byte); world_is = by_answer (λ v. w ≡ v) w (read e a bus) (λ z. refl) refl }
+fixed {w} (run.write e store' places' a b r l) =
     let c = w.chip in
     record {
-      reply-is = rw (l.call.answer, s);
+      reply-is = rw l.call.answer;
       world_is =
-          rw (l.call.chip, l.store-after, l.places-after, s, p)
+          rw (l.call.chip, l.store-after, l.places-after)
           (edit_served (answer_to w (write e a b)) w e (page_written c e (register_at a) b) (store_written w.lent.store (register_at a) b)
           (places_after c e w.lent.store (places_of w.lent e) a));
     }
-fixed {w} (run.undo κs e store places store' r s p l) =
+fixed {w} (run.undo e store' r l) =
     let entry = newest w.chip e (places_of w.lent e) in
     record {
-      reply-is = rw (l.call.answer, s);
+      reply-is = rw l.call.answer;
       world_is =
-          rw (l.call.chip, l.store-after, s, p)
+          rw (l.call.chip, l.store-after)
           (store-served (answer_to w (undo e)) w e (undone w.chip e entry) (store_undone w.lent.store entry));
     }
 fixed {w} (run.ack r l) =
     record { reply-is = rw (l.answer, l.vector); world_is = rw l.chip (chip-served (answer_to w ack) w (acknowledged w.chip)) }
-fixed {w} (run.line κs ram store shown shown' a n r s t u l) =
+fixed {w} (run.line shown shown' a n r u l) =
     record {
-      reply-is = rw (l.steps.answer, l.steps.report, s, t, u);
-      world_is = rw (l.steps.chip, s, t, u) (chip-served (answer_to w (line a n)) w (stepped w.lent.ram w.chip));
+      reply-is = rw (l.steps.answer, l.steps.report, u);
+      world_is = rw (l.steps.chip, u) (chip-served (answer_to w (line a n)) w (stepped w.lent.ram w.chip));
     }
-fixed {w} (run.step κs ram a r s l) =
+fixed {w} (run.step a r l) =
     record {
-      reply-is = rw (l.answer, l.report, s);
-      world_is = rw (l.chip, s) (chip-served (answer_to w (step a)) w (stepped w.lent.ram w.chip));
+      reply-is = rw (l.answer, l.report);
+      world_is = rw l.chip (chip-served (answer_to w (step a)) w (stepped w.lent.ram w.chip));
     }
 fixed {w} (run.start o r l) = record { reply-is = rw l.answer; world_is = rw l.chip }
 fixed {w} (run.area from upto r l) =
     record { reply-is = rw l.answer; world_is = rw l.chip (chip-served (answer_to w (area from upto)) w (with_lists w.chip (area_of from upto))) }
-fixed {w} (run.place κs slots ram list slots' ram' r s m l) =
-    let p = some (lists_of w.chip) w.lent.slots w.lent.ram list.now in
-    let same = only (rw (s, m) at l.places-list) p.holds in
+fixed {w} (run.place list slots' ram' r l) =
+    let p = some (lists_of w.chip) w.lent.slots w.lent.ram list in
+    let same = only l.places-list p.holds in
     record {
       reply-is =
           ap (λ (x : Placed). record { answer = x.answer; told = placed x.address x.handle }) same.result;
       world_is =
           ap (λ (x : Chip). roomed w x ram' slots') l.rest
           ∙ ap (λ (x : Placed). roomed w (with_lists w.chip x.area) ram' slots') same.result
-          ∙ rw (same.places, same.ram) (place-served w list.now);
+          ∙ rw (same.places, same.ram) (place-served w list);
     }
-fixed {w} (run.remove κs slots handle r s l) =
+fixed {w} (run.remove handle r l) =
     record {
-      reply-is = rw (l.answer, s);
+      reply-is = rw l.answer;
       world_is =
-          rw (l.chip, s) (chip-served (answer_to w (remove handle)) w (with_lists w.chip (without_list (lists_of w.chip) handle)));
+          rw l.chip (chip-served (answer_to w (remove handle)) w (with_lists w.chip (without_list (lists_of w.chip) handle)));
     }
 fixed {w} (run.mute n on r l) =
     record { reply-is = rw l.answer; world_is = rw l.chip (chip-served (mute_answer n) w (mute_set w.chip n on)) }
@@ -187,7 +185,7 @@ other-places w Picture c store places = refl
 pub written : {w v : World} {e : Editor} {a b : ℕ} {r : Reply} → Makes w (write e a b) r v →
     Writes w.chip e w.lent.store (places_of w.lent e) a b v.lent.store (places_of v.lent e)
     (record { answer = r.answer; chip = v.chip })
-written {w} (run.write κs e store places store' places' a b r s p l) = rw (edited-places w e r.chip store' places', ← s, ← p) l
+written {w} (run.write e store' places' a b r l) = rw (edited-places w e r.chip store' places') l
 
 pub record Taken (w : World) (e : Editor) (r : Reply) (v : World) : Type 0 where
   pub undoes :
@@ -195,26 +193,10 @@ pub record Taken (w : World) (e : Editor) (r : Reply) (v : World) : Type 0 where
   pub places_stay : places_of v.lent e ≡ places_of w.lent e
 
 pub taken : {w v : World} {e : Editor} {r : Reply} → Makes w (undo e) r v → Taken w e r v
-taken {w} (run.undo κs e store places store' r s p l) =
-    record { undoes = rw (← s, ← p) l; places_stay = edited-places w e r.chip store' (places_of w.lent e) }
+taken {w} (run.undo e store' r l) =
+    record { undoes = l; places_stay = edited-places w e r.chip store' (places_of w.lent e) }
 
 -- ---- every call can be made on every world with 256 places for each editor
-
--- a buffer as it is lent to be read, and to be written, and a lifetime
-abbrev pub lending : List ℕ → Bor (List ℕ)
-lending bytes = record { ref_ptr = (0, 0); now = bytes }
-
-abbrev pub lending_mut : List ℕ → MutBor (List ℕ)
-lending_mut bytes = record { ref_ptr = (0, 0); ghost_name = 0; now = bytes }
-
-abbrev pub lifetime : Lfts 1
-lifetime = ([], tt)
-
-abbrev pub lifetimes : Lfts 2
-lifetimes = ([], ([], tt))
-
-abbrev three-lifetimes : Lfts 3
-three-lifetimes = ([], ([], ([], tt)))
 
 answers : (number : ℕ) (next c : Chip) → Answers number next c (record { answer = number; chip = served number next c })
 answers number next c = record { answer = refl; chip = refl }
@@ -242,7 +224,7 @@ way w (read e a bus) h =
       reply = _;
       after = _;
       made =
-          run.read lifetime e (lending w.lent.store) a bus (record { answer = _; byte = _ }) refl
+          run.read e a bus (record { answer = _; byte = _ })
           (record { answer = refl; byte = refl });
     }
 way w (write e a b) h =
@@ -250,7 +232,7 @@ way w (write e a b) h =
       reply = _;
       after = _;
       made =
-          run.write lifetimes e (lending_mut w.lent.store) (lending_mut (places_of w.lent e)) _ _ a b _ refl refl
+          run.write e _ _ a b _
           (write-possible w.chip e w.lent.store (places_of w.lent e) a b (h e));
     }
 way w (undo e) h =
@@ -258,7 +240,7 @@ way w (undo e) h =
       reply = _;
       after = _;
       made =
-          run.undo lifetimes e (lending_mut w.lent.store) (lending (places_of w.lent e)) _ _ refl refl
+          run.undo e _ _
           (undo-possible w.chip e w.lent.store (places_of w.lent e));
     }
 way w ack h =
@@ -272,14 +254,14 @@ way w (line a n) h =
       reply = _;
       after = _;
       made =
-          run.line three-lifetimes (lending w.lent.ram) (lending w.lent.store) (lending_mut (replicate n 0)) _ a n _ refl refl (length-replicate n 0)
+          run.line (replicate n 0) _ a n _ (length-replicate n 0)
           (line-possible w.chip w.lent.ram w.lent.store (replicate n 0) a);
     }
 way w (step a) h =
     record {
       reply = _;
       after = _;
-      made = run.step lifetime (lending w.lent.ram) a _ refl (steps-by (step_answer w.lent.ram) w.chip w.lent.ram a);
+      made = run.step a _ (steps-by (step_answer w.lent.ram) w.chip w.lent.ram a);
     }
 way w (start o) h = record { reply = _; after = _; made = run.start o _ (answers _ _ w.chip) }
 way w (area from upto) h = record { reply = _; after = _; made = run.area from upto _ (answers _ _ w.chip) }
@@ -289,17 +271,17 @@ way w (place list) h =
       reply = _;
       after = _;
       made =
-          run.place three-lifetimes (lending_mut w.lent.slots) (lending_mut w.lent.ram) (lending list) p.places-after p.ram-after
+          run.place list p.places-after p.ram-after
           (record {
             chip = with_lists w.chip p.result.area;
             answer = p.result.answer;
             address = p.result.address;
             handle = p.result.handle;
           })
-          refl refl (record { places-list = p.holds; rest = refl });
+          (record { places-list = p.holds; rest = refl });
     }
 way w (remove handle) h =
-    record { reply = _; after = _; made = run.remove lifetime (lending w.lent.slots) handle _ refl (answers _ _ w.chip) }
+    record { reply = _; after = _; made = run.remove handle _ (answers _ _ w.chip) }
 way w (mute n on) h = record { reply = _; after = _; made = run.mute n on _ (answers _ _ w.chip) }
 way w (lend l) h = record { reply = _; after = _; made = run.lend l }
 
@@ -315,6 +297,6 @@ pub placed-world :
 placed-world w list {slots'} {ram'} {r} holds =
     sym
     (fixed
-    (run.place three-lifetimes (lending_mut w.lent.slots) (lending_mut w.lent.ram) (lending list) slots' ram'
-    (record { chip = with_lists w.chip r.area; answer = r.answer; address = r.address; handle = r.handle }) refl refl
+    (run.place list slots' ram'
+    (record { chip = with_lists w.chip r.area; answer = r.answer; address = r.address; handle = r.handle })
     (record { places-list = holds; rest = refl }))).world_is

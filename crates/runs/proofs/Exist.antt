@@ -7,7 +7,7 @@ use Rattle.editors.specs.declared.Editor.{Editor}
 use Rattle.editors.specs.Table.{same}
 use Rattle.editors.proofs.Which.{Which, own, another, which, same_self, same-other}
 use Rattle.chip.specs.declared.Chip.{Chip}
-use Rattle.chip.proofs.start.reset.Reads as reset
+use Rattle.chip.specs.Reset.{Reset}
 use Rattle.contents.specs.Widths.{Bytes}
 use Rattle.runs.specs.World.{World, edited}
 use Rattle.runs.specs.Call.{Call, Typed, world_after}
@@ -79,7 +79,7 @@ none_lent : (w : World) (c : Call) → Kept c → Whole c
 none_lent w c k = lends-whole w c (λ l q. let lent : ⊥ = rw q at k in absurd lent)
 
 pub traces_exist :
-    (ed : Editor) (cs : List Call) (start : World) → reset.Learnt tt tt start.chip tt → Bytes start.lent.store →
+    (ed : Editor) (cs : List Call) (start : World) → Reset start.chip → Bytes start.lent.store →
     AllPlaces start → Every Typed cs → AllKept cs →
     Trace ed start (made_over start cs) (world_over start cs) (snapshots_over ed (made_over start cs) [])
 traces_exist ed cs start fresh bytes full t k =

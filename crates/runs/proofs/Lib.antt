@@ -1,4 +1,5 @@
 -- Laws over runs.
+pub mod Contracts
 pub mod Calls
 pub mod Numbers
 pub mod Worlds

@@ -1,6 +1,6 @@
 -- 01, "Lock and ports": a run from reset, and the bytes written to BCxx on the way.
 use Rattle.std.specs.Prelude.{List, [], ◌∷◌, ℕ}
-use Rattle.chip.proofs.start.reset.Reads as reset
+use Rattle.chip.specs.Reset.{Reset}
 use Rattle.runs.specs.World.{World}
 use Rattle.runs.specs.Call.{Typed}
 use Rattle.runs.specs.Sort.{Sort, feeds, writes, undoes, steps_line, starts, lends, plain, sort_of}
@@ -8,7 +8,7 @@ use Rattle.runs.specs.Run.{Made, Run, Each}
 
 -- a run from the chip that reset gives, with any buffers, each call served or refused, to a world
 pub record Reached (start : World) (log : List Made) (w : World) : Type 0 where
-  pub fresh : reset.Learnt tt tt start.chip tt
+  pub fresh : Reset start.chip
   pub run : Run start log w
   pub typed : Each (λ e. Typed e.asks) log
 

@@ -1,7 +1,6 @@
--- Calls made one after the other, each known by its contract alone, as a caller learns it.
+-- Calls made one after the other, each known by its contract alone, as a caller learns it. The crate's proofs hold each promise named here to
+-- the contract of the call (proofs/Contracts.antt).
 use Rattle.std.specs.Prelude.{◌≡◌, Bool, List, [], ◌∷◌, map, ℕ, length}
-use contract.Lifetimes.{Lfts}
-use denote.Ref.{Bor, MutBor, at_last}
 use Rattle.common.specs.Answers.{done}
 use Rattle.editors.specs.declared.Editor.{Editor}
 use Rattle.editors.specs.declared.Owners.{Owners}
@@ -9,84 +8,65 @@ use Rattle.sound.specs.declared.Accesses.{Accesses}
 use Rattle.chip.specs.declared.Answered.{Answered}
 use Rattle.chip.specs.declared.Acknowledged.{Acknowledged}
 use Rattle.chip.specs.declared.Stepped.{Stepped}
+use Rattle.chip.specs.Promises.{Answers}
+use Rattle.chip.specs.Ports.{Selects, data_answer, data_written, gate_answer, gate_written}
+use Rattle.chip.specs.Interrupts.{Acknowledges}
+use Rattle.chip.specs.Step.{Steps}
+use Rattle.chip.specs.Mute.{mute_answer, mute_set}
+use Rattle.chip.specs.Editors.{started}
+use Rattle.line.specs.Contract.{Shows}
+use Rattle.placing.specs.Contract.{GivesArea, PlacesList, RemovesList}
 use Rattle.placing.specs.declared.PlacedList.{PlacedList}
 use Rattle.page.specs.declared.ByteRead.{ByteRead}
-use Rattle.chip.proofs.ports.write_bc.Reads as write-bc
-use Rattle.chip.proofs.ports.write_bd.Reads as write-bd
-use Rattle.chip.proofs.ports.write_7f.Reads as write-7f
-use Rattle.chip.proofs.acknowledge.acknowledge.Reads as acknowledge
-use Rattle.chip.proofs.line.step.Reads as chip-step
-use Rattle.chip.proofs.mute.mute.Reads as chip-mute
-use Rattle.line.proofs.line.Reads as line-shown
-use Rattle.chip.proofs.table.start.Reads as table-start
-use Rattle.placing.proofs.area.Reads as placing-area
-use Rattle.placing.proofs.place.Reads as placing-place
-use Rattle.placing.proofs.remove.Reads as placing-remove
-use Rattle.page.proofs.page_read.Reads as page-read
-use Rattle.page.proofs.page_write.Reads as page-write
-use Rattle.page.proofs.undo.Reads as page-undo
+use Rattle.page.specs.Page.{Reads, Writes}
+use Rattle.page.specs.Undo.{Undoes}
 use Rattle.runs.specs.World.{World, places_of, with_chip, edited, roomed, Loan, lent_by}
 use Rattle.runs.specs.Call as call
 use Rattle.runs.specs.Call.{Call, Reply, byte, vector, report, placed, number, reply_to, world_after}
 
 -- a call made on a world: its reply, and the world that it leaves
 pub data Makes (w : World) : Call → Reply → World → Type 0 where
-  bc :
-      (b : ℕ) (r : Answered) →
-      write-bc.Learnt tt (w.chip, (b, tt)) r (w.chip, (b, tt)) →
-      Makes w (call.bc b) (number r.answer) (with_chip w r.chip)
+  bc : (b : ℕ) (r : Answered) → Selects w.chip b r → Makes w (call.bc b) (number r.answer) (with_chip w r.chip)
   bd :
-      (b : ℕ) (r : Answered) →
-      write-bd.Learnt tt (w.chip, (b, tt)) r (w.chip, (b, tt)) →
+      (b : ℕ) (r : Answered) → Answers (data_answer w.chip) (data_written w.chip b) w.chip r →
       Makes w (call.bd b) (number r.answer) (with_chip w r.chip)
   gate :
-      (b : ℕ) (r : Answered) →
-      write-7f.Learnt tt (w.chip, (b, tt)) r (w.chip, (b, tt)) →
+      (b : ℕ) (r : Answered) → Answers (gate_answer b) (gate_written w.chip b) w.chip r →
       Makes w (call.gate b) (number r.answer) (with_chip w r.chip)
   read :
-      (κs : Lfts 1) (e : Editor) (store : Bor (List ℕ)) (a bus : ℕ) (r : ByteRead) → store.now ≡ w.lent.store →
-      page-read.Learnt κs (w.chip, (e, (store, (a, (bus, tt))))) r (w.chip, (e, (store, (a, (bus, tt))))) →
+      (e : Editor) (a bus : ℕ) (r : ByteRead) → Reads w.chip e w.lent.store a bus r →
       Makes w (call.read e a bus) (record { answer = r.answer; told = byte r.byte }) w
   write :
-      (κs : Lfts 2) (e : Editor) (store places : MutBor (List ℕ)) (store' places' : List ℕ) (a b : ℕ) (r : Answered) →
-      store.now ≡ w.lent.store → places.now ≡ places_of w.lent e →
-      page-write.Learnt κs (w.chip, (e, (store, (places, (a, (b, tt)))))) r
-      (w.chip, (e, (at_last store store', (at_last places places', (a, (b, tt)))))) →
+      (e : Editor) (store' places' : List ℕ) (a b : ℕ) (r : Answered) →
+      Writes w.chip e w.lent.store (places_of w.lent e) a b store' places' r →
       Makes w (call.write e a b) (number r.answer) (edited w e r.chip store' places')
   undo :
-      (κs : Lfts 2) (e : Editor) (store : MutBor (List ℕ)) (places : Bor (List ℕ)) (store' : List ℕ) (r : Answered) →
-      store.now ≡ w.lent.store → places.now ≡ places_of w.lent e →
-      page-undo.Learnt κs (w.chip, (e, (store, (places, tt)))) r (w.chip, (e, (at_last store store', (places, tt)))) →
+      (e : Editor) (store' : List ℕ) (r : Answered) → Undoes w.chip e w.lent.store (places_of w.lent e) store' r →
       Makes w (call.undo e) (number r.answer) (edited w e r.chip store' (places_of w.lent e))
   ack :
-      (r : Acknowledged) → acknowledge.Learnt tt (w.chip, tt) r (w.chip, tt) →
+      (r : Acknowledged) → Acknowledges w.chip r →
       Makes w call.ack (record { answer = r.answer; told = vector r.vector }) (with_chip w r.chip)
   line :
-      (κs : Lfts 3) (ram store : Bor (List ℕ)) (line : MutBor (List ℕ)) (line' : List ℕ) (a : Accesses) (n : ℕ) (r : Stepped) →
-      ram.now ≡ w.lent.ram → store.now ≡ w.lent.store → length line.now ≡ n →
-      line-shown.Learnt κs (w.chip, (ram, (store, (line, (a, tt))))) r (w.chip, (ram, (store, (at_last line line', (a, tt))))) →
+      (line line' : List ℕ) (a : Accesses) (n : ℕ) (r : Stepped) → length line ≡ n →
+      Shows w.chip w.lent.ram w.lent.store a line line' r →
       Makes w (call.line a n) (record { answer = r.answer; told = report r.report }) (with_chip w r.chip)
   step :
-      (κs : Lfts 1) (ram : Bor (List ℕ)) (a : Accesses) (r : Stepped) → ram.now ≡ w.lent.ram →
-      chip-step.Learnt κs (w.chip, (ram, (a, tt))) r (w.chip, (ram, (a, tt))) →
+      (a : Accesses) (r : Stepped) → Steps w.chip w.lent.ram a r →
       Makes w (call.step a) (record { answer = r.answer; told = report r.report }) (with_chip w r.chip)
   start :
-      (o : Owners) (r : Answered) → table-start.Learnt tt (w.chip, (o, tt)) r (w.chip, (o, tt)) →
+      (o : Owners) (r : Answered) → Answers done (started w.chip o) w.chip r →
       Makes w (call.start o) (number r.answer) (with_chip w r.chip)
   area :
-      (from upto : ℕ) (r : Answered) → placing-area.Learnt tt (w.chip, (from, (upto, tt))) r (w.chip, (from, (upto, tt))) →
+      (from upto : ℕ) (r : Answered) → GivesArea w.chip from upto r →
       Makes w (call.area from upto) (number r.answer) (with_chip w r.chip)
   place :
-      (κs : Lfts 3) (slots ram : MutBor (List ℕ)) (list : Bor (List ℕ)) (slots' ram' : List ℕ) (r : PlacedList) →
-      slots.now ≡ w.lent.slots → ram.now ≡ w.lent.ram →
-      placing-place.Learnt κs (w.chip, (slots, (ram, (list, tt)))) r (w.chip, (at_last slots slots', (at_last ram ram', (list, tt)))) →
-      Makes w (call.place list.now) (record { answer = r.answer; told = placed r.address r.handle }) (roomed w r.chip ram' slots')
+      (list slots' ram' : List ℕ) (r : PlacedList) → PlacesList w.chip w.lent.slots w.lent.ram list slots' ram' r →
+      Makes w (call.place list) (record { answer = r.answer; told = placed r.address r.handle }) (roomed w r.chip ram' slots')
   remove :
-      (κs : Lfts 1) (slots : Bor (List ℕ)) (handle : ℕ) (r : Answered) → slots.now ≡ w.lent.slots →
-      placing-remove.Learnt κs (w.chip, (slots, (handle, tt))) r (w.chip, (slots, (handle, tt))) →
+      (handle : ℕ) (r : Answered) → RemovesList w.chip w.lent.slots handle r →
       Makes w (call.remove handle) (number r.answer) (with_chip w r.chip)
   mute :
-      (n : ℕ) (on : Bool) (r : Answered) → chip-mute.Learnt tt (w.chip, (n, (on, tt))) r (w.chip, (n, (on, tt))) →
+      (n : ℕ) (on : Bool) (r : Answered) → Answers (mute_answer n) (mute_set w.chip n on) w.chip r →
       Makes w (call.mute n on) (number r.answer) (with_chip w r.chip)
   lend : (l : Loan) → Makes w (call.lend l) (number done) (record { chip = w.chip; lent = lent_by l w.lent })
 
