@@ -1,6 +1,6 @@
 -- The claim is not empty: for every list and every start at which it fits there is RAM that has its words and RAM that has the mended
 -- ones, and on each there are runs of any number of lines, from chips with a fresh channel.
-use mathlib.Core.Path.{◌≡◌, refl, ◌∙◌, ap}
+use mathlib.Core.Path.{◌≡◌, refl, ◌∙◌, ap, subst}
 use mathlib.Core.List.{List, [], ◌∷◌, map, ◌++◌, append_assoc}
 use Prim.Native.Nat.{ℕ, zero, suc, ◌+◌, ◌-◌, ◌*◌, ◌/◌, ◌%◌, ◌<◌, ◌≤◌}
 use native.Mathlib.Omega.{arith}
@@ -49,7 +49,7 @@ module _ (more : List ℕ) where
   has-bytes : (front : List ℕ) (a : ℕ) → length front ≡ a → (ws : List ℕ) → a + length ws * 2 ≤ 65536 → Has (front ++ (bytes_of ws ++ more)) a ws
   unfolding bytes_of
   has-bytes front a e [] fits = tt
-  has-bytes front a e (w ∷ ws) fits = (first, rw (← together) (has-bytes (front ++ bytes) (a + 2) longer ws (omega (arith, fits))))
+  has-bytes front a e (w ∷ ws) fits = (first, subst (λ (l : List ℕ). Has l (a + 2) ws) together (has-bytes (front ++ bytes) (a + 2) longer ws (omega (arith, fits))))
     where
       bytes : List ℕ
       bytes = w % 256 ∷ w / 256 ∷ []
