@@ -22,7 +22,9 @@ FILES = [
 ]
 # a name as antt reads it
 WORD = re.compile(r"[^\s(){}\[\].,;:→λ⌜⌝\"«»|↦=×⊎≡≢≤<>+*/%^∷!&?←]+")
-DEFINED = re.compile(r"(?m)^( *)((?:abbrev |unfoldable |pub )*)([^\s:(){}.⌜\"]+) :(?: |$)((?:.*)(?:\n\1 +.*)*)")
+DEFINED = re.compile(r"(?m)^( *)((?:abbrev |unfoldable |pub )*)([^\s:(){}.⌜\"]+)(?: \{[^}]*\})? :(?: |$)((?:.*)(?:\n\1 +.*)*)")
+# a name that an import gives
+GIVEN = re.compile(r"(?<=[\w'] as )([a-z][\w']*)")
 NAMED = re.compile(r"(?m)^ *(?:pub )?(?:data|record) ([^\s:(){}]+)")
 # words of the library that a dash joins to a name
 LIBRARY = set(
@@ -34,12 +36,16 @@ RESPELLED = {"getD": "get_or"}
 # where two names would fall together, or a name would be hidden by one of src/
 CHOSEN = {
     "alike": "alike",
+    "allPlaced": "all_placed_answer",
     "entryRegister": "entry_register_of",
     "from6C00": "from_6c00",
     "inUse": "in_use_of",
     "keptByte": "kept_byte_of",
     "loadLine": "load_line_of",
     "noChange": "empty_change",
+    "noGap": "no_gap_answer",
+    "noHandle": "no_handle_answer",
+    "on_line": "on_line_lem",
     "past-6C00": "past_6c00",
     "placeAfter": "place_after_edit",
     "split-high": "split_high_fits",
@@ -64,9 +70,11 @@ def defined():
     """Each name that specs/ and proofs/ define, and whether it is a fact."""
     found = {}
     for name in files(FILES[:2]):
-        if name.endswith(("/Proof.antt", "/Answers.antt", "/Invariants.antt")):
-            continue
         text = open(name).read()
+        if re.search(r"(?m)^use \S+ as (goal|tie)$", text):
+            continue
+        for m in GIVEN.finditer(text):
+            found.setdefault(m[1], False)
         for m in DEFINED.finditer(text):
             # a signature stands at the margin, in a module, a where, a record or a data
             fact = re.search(r"(→|^)\s*Type \d\s*$", m[4].strip()) is not None

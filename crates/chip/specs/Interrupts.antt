@@ -9,7 +9,7 @@ use Rattle.chip.specs.declared.Chip.{Chip}
 use Rattle.chip.specs.declared.Interrupts.{Interrupts}
 use Rattle.chip.specs.declared.Acknowledged.{Acknowledged}
 use Rattle.chip.specs.State.{with_interrupts, with_sound}
-use Rattle.common.specs.Answers.{done, noInterrupt, served}
+use Rattle.common.specs.Answers.{done, no_interrupt, served}
 
 -- channel n's interrupt waits
 abbrev pub waiting : Sound → ℕ → Bool
@@ -40,7 +40,7 @@ abbrev pub source_on : Chip → ℕ
 source_on c = source_of c.interrupts.raster c.sound
 
 unfoldable pub acknowledge_answer : Chip → ℕ
-acknowledge_answer c = if (eqb (source_on c) nobody) noInterrupt done
+acknowledge_answer c = if (eqb (source_on c) nobody) no_interrupt done
 
 -- the top five bits of IVR, and what the source adds
 unfoldable pub vector_of : ℕ → ℕ → ℕ

@@ -1,6 +1,6 @@
 -- 02, L13: the host mutes a channel, or has it heard again.
 use Rattle.std.specs.Prelude.{Bool, List, ℕ, ltb, set}
-use Rattle.common.specs.Answers.{done, nothingThere}
+use Rattle.common.specs.Answers.{done, nothing_there}
 use Rattle.common.specs.Choice.{if}
 use Rattle.sound.specs.declared.Channel.{Channel}
 use Rattle.sound.specs.Channels.{with_mute}
@@ -10,7 +10,7 @@ use Rattle.chip.specs.State.{with_channels}
 
 -- there are channels 0, 1 and 2; of the number all 16 bits count
 unfoldable pub mute_answer : ℕ → ℕ
-mute_answer n = if (ltb n 3) done nothingThere
+mute_answer n = if (ltb n 3) done nothing_there
 
 -- the channels with the mute mark of channel n set or cleared
 abbrev pub channels_muted : List Channel → ℕ → Bool → List Channel

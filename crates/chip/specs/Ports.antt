@@ -7,7 +7,7 @@ use Rattle.chip.specs.declared.Gate.{Gate}
 use Rattle.chip.specs.declared.Chip.{Chip}
 use Rattle.chip.specs.declared.Answered.{Answered}
 use Rattle.chip.specs.State.{with_lock, with_gate, with_crtc, with_registers, with_raster}
-use Rattle.common.specs.Answers.{done, nothingThere}
+use Rattle.common.specs.Answers.{done, nothing_there}
 use Rattle.chip.specs.Promises.{Answers}
 
 -- a BCxx byte selects a 6845 register by its low 5 bits and feeds the lock
@@ -25,7 +25,7 @@ pub record Selects (c : Chip) (b : ℕ) (r : Answered) : Type 0 where
 
 -- a data write goes to the selected register; one that isn't kept refuses it
 unfoldable pub data_answer : Chip → ℕ
-data_answer c = if (has_register c.crtc.selected) done nothingThere
+data_answer c = if (has_register c.crtc.selected) done nothing_there
 
 unfoldable pub data_written : Chip → ℕ → Chip
 data_written c b = with_registers c (written c.crtc.registers c.crtc.selected b)
@@ -39,7 +39,7 @@ abbrev pub gate_served : ℕ → Bool
 gate_served b = either (eqb (top b) 4) (eqb (top b) 5)
 
 unfoldable pub gate_answer : ℕ → ℕ
-gate_answer b = if (gate_served b) done nothingThere
+gate_answer b = if (gate_served b) done nothing_there
 
 -- 101 when unlocked is for the page; 100, or 101 when locked, is for the mode
 abbrev pub for_page : Chip → ℕ → Bool

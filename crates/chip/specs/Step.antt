@@ -13,12 +13,12 @@ use Rattle.chip.specs.declared.Chip.{Chip}
 use Rattle.chip.specs.declared.Stepped.{Stepped}
 use Rattle.chip.specs.declared.line.Moved.{Moved}
 use Rattle.chip.specs.State.{with_sound, with_counters, with_raster}
-use Rattle.common.specs.Answers.{done, wrongLength, served}
+use Rattle.common.specs.Answers.{done, wrong_length, served}
 use Rattle.common.specs.Sizes.{ram_bytes}
 
 -- RAM of another length is refused
 unfoldable pub step_answer : List ℕ → ℕ
-step_answer ram = if (eqb (length ram) ram_bytes) done wrongLength
+step_answer ram = if (eqb (length ram) ram_bytes) done wrong_length
 
 -- each channel reported as sitting out, and no cycles
 unfoldable pub idle_report : Report

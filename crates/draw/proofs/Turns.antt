@@ -27,8 +27,8 @@ module _ {x to : ℕ} (less : x < to) (high : to ≤ 640) where
 pub pen-place : (x : ℕ) {scroll : ℕ} → scroll ≤ 16 → scroll ≤ x + 16
 pen-place x low = omega arith
 
-pub on_line : (l : List ℕ) {x : ℕ} → x < 640 → length l ≡ 640 → x < length l
-on_line l less is = rw is less
+pub on_line_lem : (l : List ℕ) {x : ℕ} → x < 640 → length l ≡ 640 → x < length l
+on_line_lem l less is = rw is less
 
 pub measure_falls : {x y to : ℕ} → x < y → y ≤ to → to - y < to - x
 measure_falls less most = omega arith

@@ -6,13 +6,13 @@ use Rattle.picture.specs.Screen.{row_line}
 use Rattle.screen.specs.MainLine.{line_pen}
 use Rattle.overlay.specs.Overlay.{first_pixel}
 use Rattle.chip.specs.declared.Chip.{Chip}
-use Rattle.common.specs.Answers.{done, wrongLength, modeThree}
+use Rattle.common.specs.Answers.{done, wrong_length, mode_three}
 use Rattle.common.specs.Sizes.{ram_bytes, store_bytes, line_bytes}
 
 -- 1 for a buffer of another length, then 4 for mode 3
 unfoldable pub draw_answer : Chip → ℕ → ℕ → ℕ → ℕ
 draw_answer c ram store line =
-    if (both (eqb ram ram_bytes) (both (eqb store store_bytes) (eqb line line_bytes))) (if (eqb c.gate.mode 3) modeThree done) wrongLength
+    if (both (eqb ram ram_bytes) (both (eqb store store_bytes) (eqb line line_bytes))) (if (eqb c.gate.mode 3) mode_three done) wrong_length
 
 -- in adjust, or with VC at R6 or more, the whole line is border
 unfoldable pub all_border : Chip → Bool

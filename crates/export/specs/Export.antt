@@ -1,6 +1,6 @@
 -- 02, L5: the export: for each writable register byte outside the pixels but DCSR its address and its contents.
 use Rattle.std.specs.Prelude.{◌≡◌, List, [], ◌∷◌, ◌++◌, ℕ, zero, suc, ◌+◌, ◌/◌, ◌%◌, eqb, length}
-use Rattle.common.specs.Answers.{done, wrongLength, served}
+use Rattle.common.specs.Answers.{done, wrong_length, served}
 use Rattle.common.specs.Choice.{if}
 use Rattle.common.specs.Sizes.{export_bytes}
 use Rattle.chip.specs.declared.Chip.{Chip}
@@ -28,7 +28,7 @@ bytes_of c (a ∷ rest) = a % 256 ∷ a / 256 ∷ contents c [] (register_at a) 
 
 -- a buffer of 477 bytes, 3 for each of 159 registers
 unfoldable pub export_answer : ℕ → ℕ
-export_answer size = if (eqb size export_bytes) done wrongLength
+export_answer size = if (eqb size export_bytes) done wrong_length
 
 -- what the export promises
 pub record Exports (c : Chip) (before after : List ℕ) (r : ℕ) : Type 0 where

@@ -19,7 +19,7 @@ use Rattle.chip.specs.Channels.{LeftAlone}
 use Rattle.chip.specs.Step.{idle_report}
 use Rattle.runs.specs.World.{World, places_of}
 use Rattle.runs.specs.Call.{Told, nothing, byte, vector, report, placed}
-use Rattle.runs.specs.Sort.{Sort, feeds, writes, undoes, steps_line, starts, lends, plain, onLine}
+use Rattle.runs.specs.Sort.{Sort, feeds, writes, undoes, steps_line, starts, lends, plain, on_line}
 use Rattle.runs.specs.Run.{Made, Run, Each}
 use Rattle.registers.specs.Owners.{owns_channel}
 use Rattle.page.specs.UndoRecord.{entry_address, entry_contents}
@@ -86,7 +86,7 @@ report_in (placed a h) = idle_report
 -- the served line steps of a run, in order
 abbrev pub step_by : Made → List LineStep → List LineStep
 step_by e steps =
-    onLine (λ a. served e.reply.answer (record { accesses = a; report = report_in e.reply.told } ∷ steps) steps) steps e.asks
+    on_line (λ a. served e.reply.answer (record { accesses = a; report = report_in e.reply.told } ∷ steps) steps) steps e.asks
 
 abbrev pub steps_of : List Made → List LineStep
 steps_of [] = []
@@ -99,7 +99,7 @@ steps_of (e ∷ es) = step_by e (steps_of es)
 abbrev pub Allowed : ℕ → List ℕ → ℕ → Made → Type 0
 Allowed n ram start e =
     e.reply.answer ≡ done →
-    onLine (λ a. Lent ram start e.before.lent.ram) (LeftAlone (channel e.before.chip n) (channel e.after.chip n)) e.asks
+    on_line (λ a. Lent ram start e.before.lent.ram) (LeftAlone (channel e.before.chip n) (channel e.after.chip n)) e.asks
 
 -- ---- what the channel executed is what the steps report of it; `ownCycles` of an access and a report is what it cost the channel itself
 

@@ -4,7 +4,7 @@ use Rattle.common.specs.Answers.{served}
 use Rattle.sound.specs.declared.Channel.{Channel}
 use Rattle.sound.specs.declared.Did.{Did}
 use Rattle.sound.specs.Line.{did_of}
-use Rattle.runs.specs.Sort.{onLine}
+use Rattle.runs.specs.Sort.{on_line}
 use Rattle.runs.specs.Run.{Made}
 use Rattle.forecast.specs.Demand.{channel, report_in}
 
@@ -20,7 +20,7 @@ line_of n e =
     record { before = channel e.before.chip n; did = did_of (report_in e.reply.told).entries n; after = channel e.after.chip n }
 
 abbrev pub line_by : ℕ → Made → List Line → List Line
-line_by n e ls = onLine (λ a. served e.reply.answer (line_of n e ∷ ls) ls) ls e.asks
+line_by n e ls = on_line (λ a. served e.reply.answer (line_of n e ∷ ls) ls) ls e.asks
 
 abbrev pub played_in : ℕ → List Made → List Line
 played_in n [] = []

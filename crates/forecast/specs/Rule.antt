@@ -1,7 +1,7 @@
 -- 01, "Sound": the forecast, over the words of a list and how many times each passes.
 use Rattle.std.specs.Prelude.{◌≡◌, Bool, true, false, List, [], ◌∷◌, ℕ, zero, suc, ◌+◌, ◌-◌, ◌*◌, ◌/◌, eqb, ltb, length, take, drop}
 use Rattle.common.specs.Choice.{if, both}
-use Rattle.common.specs.Answers.{done, wrongLength, noStop}
+use Rattle.common.specs.Answers.{done, wrong_length, no_stop}
 use Rattle.common.specs.Sizes.{ram_bytes}
 use Rattle.words.specs.Words.{kind_of, is_load, is_pause, low12, repeats, loops, stops, has_stop}
 use Rattle.sound.specs.declared.Access.{Access}
@@ -71,7 +71,7 @@ most_forecast ram start = cycles_meeting PsgWrite ram start
 -- 1 for RAM of another length, 6 where no STOP stands from the start to FFFEh, exactly then
 unfoldable pub answer_of : List ℕ → ℕ → ℕ
 answer_of ram start =
-    if (eqb (length ram) ram_bytes) (if (has_stop (words_of ram (even start))) done noStop) wrongLength
+    if (eqb (length ram) ram_bytes) (if (has_stop (words_of ram (even start))) done no_stop) wrong_length
 
 -- the bytes of the list, those of its STOP with them
 unfoldable pub list_of : List ℕ → ℕ → List ℕ

@@ -8,7 +8,7 @@ use native.Mathlib.Omega.{arith}
 use borrow.Author.Tests.{eqb-true, eq-eqb, ne_eqb}
 use lib.Dec.{eqb}
 use lib.ListN.{length, get_or}
-use Rattle.common.specs.Answers.{done, wrongLength, modeThree, served}
+use Rattle.common.specs.Answers.{done, wrong_length, mode_three, served}
 use Rattle.common.specs.Choice.{if, both}
 use Rattle.common.specs.Sizes.{ram_bytes, store_bytes, line_bytes}
 use Rattle.sound.specs.declared.Accesses.{Accesses}
@@ -59,7 +59,7 @@ line-size : (c : Chip) (ram store line : ℕ) → draw_answer c ram store line �
 unfolding draw_answer
 line-size c ram store line e = eqb-true _ _ (by-test (eqb ram ram_bytes) (eqb store store_bytes) (eqb line line_bytes) e)
   where
-    by-test : (t u v : Bool) → if (both t (both u v)) (if (eqb c.gate.mode 3) modeThree done) wrongLength ≡ done → v ≡ true
+    by-test : (t u v : Bool) → if (both t (both u v)) (if (eqb c.gate.mode 3) mode_three done) wrong_length ≡ done → v ≡ true
     by-test true true true f = refl
     by-test true true false f = let z : ◌≡◌ {A = ℕ} 0 1 = sym f in absurd (omega arith)
     by-test true false v f = let z : ◌≡◌ {A = ℕ} 0 1 = sym f in absurd (omega arith)

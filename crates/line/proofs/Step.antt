@@ -6,7 +6,7 @@ use Prim.Native.Nat.{ℕ}
 use borrow.Author.Tests.{eq-eqb}
 use lib.Dec.{eqb}
 use lib.ListN.{length}
-use Rattle.common.specs.Answers.{done, wrongLength, modeThree}
+use Rattle.common.specs.Answers.{done, wrong_length, mode_three}
 use Rattle.common.specs.Choice.{if, both}
 use Rattle.common.specs.Sizes.{ram_bytes, store_bytes, line_bytes}
 use Rattle.sound.specs.declared.Accesses.{Accesses}
@@ -21,7 +21,7 @@ ram-served : (c : Chip) (ram : List ℕ) (store line : ℕ) → draw_answer c (l
 unfolding draw_answer step_answer
 ram-served c ram store line e = by-test (eqb (length ram) ram_bytes) (both (eqb store store_bytes) (eqb line line_bytes)) e
   where
-    by-test : (t u : Bool) → if (both t u) (if (eqb c.gate.mode 3) modeThree done) wrongLength ≡ done → if t done wrongLength ≡ done
+    by-test : (t u : Bool) → if (both t u) (if (eqb c.gate.mode 3) mode_three done) wrong_length ≡ done → if t done wrong_length ≡ done
     by-test true u f = refl
     by-test false u f = f
 

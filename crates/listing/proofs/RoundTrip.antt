@@ -10,7 +10,7 @@ use lib.ListN.{length, take, get_or}
 use lib.Seq.{sets}
 use Rattle.common.proofs.Lists.{front}
 use Rattle.common.specs.Choice.{if}
-use Rattle.common.specs.Answers.{done, tooSmall}
+use Rattle.common.specs.Answers.{done, too_small}
 use Rattle.listing.specs.Text.{text_of, Words}
 use Rattle.listing.specs.Print.{Printing}
 use Rattle.listing.specs.Read.{Reading, read_answer}
@@ -18,10 +18,10 @@ use Rattle.listing.specs.Contract.{Serves, PrintsWords, ReadsText}
 use Rattle.listing.proofs.Parsing.{parsed-once, text_parses}
 
 -- a call that is served has room
-room : (n limit : ℕ) → done ≡ if (leb n limit) done tooSmall → n ≤ limit
+room : (n limit : ℕ) → done ≡ if (leb n limit) done too_small → n ≤ limit
 room n limit e = leb-true n limit (by-test (leb n limit) e)
   where
-    by-test : (t : Bool) → done ≡ if t done tooSmall → t ≡ true
+    by-test : (t : Bool) → done ≡ if t done too_small → t ≡ true
     by-test true f = refl
     by-test false f = absurd (let z : ◌≡◌ {A = ℕ} 0 8 = f in omega arith)
 

@@ -2,12 +2,12 @@
 use Rattle.std.specs.Prelude.{◌≡◌, List, ℕ, leb, length}
 use Rattle.std.proofs.lemmas.List.Edits.{sets}
 use Rattle.common.specs.Choice.{if}
-use Rattle.common.specs.Answers.{done, tooSmall, served}
+use Rattle.common.specs.Answers.{done, too_small, served}
 use Rattle.listing.specs.Text.{text_of}
 
 -- refused exactly if the text is longer than the buffer
 abbrev pub print_answer : List ℕ → ℕ → ℕ
-print_answer words room = if (leb (length (text_of words)) room) done tooSmall
+print_answer words room = if (leb (length (text_of words)) room) done too_small
 
 -- printing words into a buffer: what lies beyond the text stays, and all of the buffer where it is refused
 pub record Printing (words before after : List ℕ) (answer size : ℕ) : Type 0 where

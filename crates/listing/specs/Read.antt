@@ -2,13 +2,13 @@
 use Rattle.std.specs.Prelude.{◌≡◌, List, [], ◌∷◌, ℕ, ◌+◌, leb, length}
 use Rattle.std.proofs.lemmas.List.Edits.{sets}
 use Rattle.common.specs.Choice.{if}
-use Rattle.common.specs.Answers.{done, notListing, tooSmall, served}
+use Rattle.common.specs.Answers.{done, not_listing, too_small, served}
 use Rattle.listing.specs.Text.{Parsed}
 
 -- a text with something left that is no word's line is refused first; then words that the buffer has no room for
 abbrev pub read_answer : List ℕ → List ℕ → ℕ → ℕ
-read_answer words [] room = if (leb (length words) room) done tooSmall
-read_answer words (x ∷ rest) room = notListing
+read_answer words [] room = if (leb (length words) room) done too_small
+read_answer words (x ∷ rest) room = not_listing
 
 -- the first bad line comes after those of the words: its number from 1, or 0 where no line is bad
 abbrev pub bad_line : List ℕ → List ℕ → ℕ

@@ -5,7 +5,7 @@ use mathlib.Core.List.{List}
 use Prim.Native.Nat.{ℕ, ◌+◌, ◌<◌, ◌≤◌}
 use native.Mathlib.Omega.{arith}
 use lib.ListN.{length, set}
-use Rattle.common.specs.Answers.{done, wrongLength, wrongArea, allPlaced, noGap}
+use Rattle.common.specs.Answers.{done, wrong_length, wrong_area, all_placed_answer, no_gap_answer}
 use Rattle.common.specs.Sizes.{ram_bytes}
 use Rattle.common.specs.Storing.{PutsIfRoom}
 use Rattle.common.proofs.Storing.{had-room}
@@ -37,21 +37,21 @@ module _ {area : Area} {places : List ℕ} {bytes a : ℕ} (found : Found area.u
       }
 
 module _ {area : Area} {places ram list : List ℕ} where
-  pub places_1 : {r : Placed} → r ≡ refused wrongLength area → (length ram ≡ ram_bytes → ⊥) → Places area places ram list places ram r
+  pub places_1 : {r : Placed} → r ≡ refused wrong_length area → (length ram ≡ ram_bytes → ⊥) → Places area places ram list places ram r
   places_1 is h = rw is (other_length h)
 
   pub places_18 :
-      {r : Placed} → r ≡ refused wrongArea area → length ram ≡ ram_bytes → askable area (length list) ≡ false →
+      {r : Placed} → r ≡ refused wrong_area area → length ram ≡ ram_bytes → askable area (length list) ≡ false →
       Places area places ram list places ram r
   places_18 is long ask = rw is (not_askable long ask)
 
   pub places_19 :
-      {handle : ℕ} {r : Placed} → r ≡ refused allPlaced area → length ram ≡ ram_bytes → askable area (length list) ≡ true →
+      {handle : ℕ} {r : Placed} → r ≡ refused all_placed_answer area → length ram ≡ ram_bytes → askable area (length list) ≡ true →
       FreeOrNone area.used handle → handle ≡ 64 → Places area places ram list places ram r
   places_19 is long ask found none = rw is (all_placed long ask (λ k h. found.taken k (omega arith)))
 
   module _ {handle a : ℕ} (p : Placeable area handle places ram list) (at : Found area.used places (length list) (lower area) a) where
-    pub places_20 : {r : Placed} → r ≡ refused noGap area → upper area < a + length list → Places area places ram list places ram r
+    pub places_20 : {r : Placed} → r ≡ refused no_gap_answer area → upper area < a + length list → Places area places ram list places ram r
     places_20 is out = rw is (no_gap p.long p.ask p.free (gapless at out))
 
     pub places_0 :

@@ -1,6 +1,6 @@
 -- 02, L12: the area, its bounds, and which of the 64 handles have a list.
 use Rattle.std.specs.Prelude.{◌≡◌, Bool, ℕ, ◌*◌, ◌/◌, ◌%◌, eqb, leb, ltb}
-use Rattle.common.specs.Answers.{done, wrongArea, served}
+use Rattle.common.specs.Answers.{done, wrong_area, served}
 use Rattle.common.specs.Choice.{if, both, bit}
 use Rattle.common.specs.Sizes.{ram_bytes}
 use Rattle.lists.specs.declared.Area.{Area}
@@ -34,7 +34,7 @@ area_of from upto = record { from = from / 2; upto = upto / 2; used = 0 }
 
 -- giving it: refused if one stands already, or the bounds are others than said
 unfoldable pub area_answer : Area → ℕ → ℕ → ℕ
-area_answer area from upto = if (standing area) wrongArea (if (proper from upto) done wrongArea)
+area_answer area from upto = if (standing area) wrong_area (if (proper from upto) done wrong_area)
 
 pub record Gives (area : Area) (from upto : ℕ) (r : Changed) : Type 0 where
   pub answer : r.answer ≡ area_answer area from upto

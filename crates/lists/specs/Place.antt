@@ -1,7 +1,7 @@
 -- 02, L12: placing a list.
 use Rattle.std.specs.Prelude.{◌≡◌, Bool, true, false, List, ℕ, ◌+◌, ◌-◌, ◌%◌, ◌^◌, ◌<◌, eqb, leb, ltb, length, set}
 use Rattle.std.proofs.lemmas.List.Edits.{sets}
-use Rattle.common.specs.Answers.{done, wrongLength, wrongArea, allPlaced, noGap}
+use Rattle.common.specs.Answers.{done, wrong_length, wrong_area, all_placed_answer, no_gap_answer}
 use Rattle.common.specs.Choice.{both}
 use Rattle.common.specs.Sizes.{ram_bytes}
 use Rattle.lists.specs.declared.Area.{Area}
@@ -30,14 +30,14 @@ refused number area = record { area = area; answer = number; address = 0; handle
 -- the refusals in their order, each only where none before it holds; served, the bytes are copied to the lowest address where the list
 -- fits, under the lowest free handle, and no other byte of RAM and no other place changes
 pub data Places (area : Area) (places ram list : List ℕ) : List ℕ → List ℕ → Placed → Type 0 where
-  other_length : (length ram ≡ ram_bytes → ⊥) → Places area places ram list places ram (refused wrongLength area)
-  not_askable : length ram ≡ ram_bytes → askable area (length list) ≡ false → Places area places ram list places ram (refused wrongArea area)
+  other_length : (length ram ≡ ram_bytes → ⊥) → Places area places ram list places ram (refused wrong_length area)
+  not_askable : length ram ≡ ram_bytes → askable area (length list) ≡ false → Places area places ram list places ram (refused wrong_area area)
   all_placed :
       length ram ≡ ram_bytes → askable area (length list) ≡ true → ((k : ℕ) → k < 64 → has area k ≡ true) →
-      Places area places ram list places ram (refused allPlaced area)
+      Places area places ram list places ram (refused all_placed_answer area)
   no_gap :
       {handle : ℕ} → length ram ≡ ram_bytes → askable area (length list) ≡ true → FreeHandle area handle →
-      ((a : ℕ) → Fits area places (length list) a → ⊥) → Places area places ram list places ram (refused noGap area)
+      ((a : ℕ) → Fits area places (length list) a → ⊥) → Places area places ram list places ram (refused no_gap_answer area)
   placed :
       {handle a : ℕ} → length ram ≡ ram_bytes → askable area (length list) ≡ true → FreeHandle area handle →
       Lowest area places (length list) a →

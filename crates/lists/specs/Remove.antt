@@ -1,6 +1,6 @@
 -- 02, L12: removing a list.
 use Rattle.std.specs.Prelude.{◌≡◌, Bool, ℕ, ◌-◌, ◌^◌, ltb}
-use Rattle.common.specs.Answers.{done, wrongArea, noHandle, listInUse, served}
+use Rattle.common.specs.Answers.{done, wrong_area, no_handle_answer, list_in_use, served}
 use Rattle.common.specs.Choice.{if, both}
 use Rattle.lists.specs.declared.Area.{Area}
 use Rattle.lists.specs.declared.Changed.{Changed}
@@ -12,7 +12,7 @@ taken area handle = both (ltb handle 64) (has area handle)
 
 -- no area yet; no such handle; in use; in this order
 unfoldable pub remove_answer : Area → ℕ → Bool → ℕ
-remove_answer area handle playing = if (standing area) (if (taken area handle) (if playing listInUse done) noHandle) wrongArea
+remove_answer area handle playing = if (standing area) (if (taken area handle) (if playing list_in_use done) no_handle_answer) wrong_area
 
 -- the area with one list less
 abbrev pub without_list : Area → ℕ → Area

@@ -7,7 +7,7 @@ use native.Mathlib.Omega.{arith}
 use borrow.Author.Tests.{eqb-true, eqb-false}
 use lib.Dec.{eqb}
 use lib.ListN.{get_or}
-use Rattle.common.specs.Answers.{done, wrongArea, listInUse, served}
+use Rattle.common.specs.Answers.{done, wrong_area, list_in_use, served}
 use Rattle.common.specs.Choice.{if, either}
 use Rattle.common.proofs.Tests.{or_true, clash}
 use Rattle.lists.specs.declared.Area.{Area}
@@ -79,7 +79,7 @@ placed-stands (placed long ask free low) s = s
 -- an area that stands is not given again
 not_given : (a : Area) (from upto : ℕ) → standing a ≡ true → area_answer a from upto ≡ done → ⊥
 unfolding area_answer
-not_given a from upto s z = let e : wrongArea ≡ done = rw s at z in omega arith
+not_given a from upto s z = let e : wrong_area ≡ done = rw s at z in omega arith
 
 module _ (w : World) (k : ℕ) where
   -- area, places and RAM as they were
@@ -135,7 +135,7 @@ module _ (w : World) (k : ℕ) where
     where
       still-used : handle ≡ k → answer_to v (remove handle) ≡ done → ⊥
       still-used e z =
-          let i : listInUse ≡ done =
+          let i : list_in_use ≡ done =
           sym
           (removal_refused (lists_of v.chip) handle (in_use_of v.chip.sound (place_at v.lent.slots handle)) s.area-stands
           (rw e s.has-still.handle) (rw e s.has-still.taken) (rw e used))

@@ -5,7 +5,7 @@ use mathlib.Core.List.{List, []}
 use Prim.Native.Nat.{ℕ, ◌<◌}
 use native.Mathlib.Omega.{arith}
 use borrow.Author.Tests.{lt-ltb}
-use Rattle.common.specs.Answers.{done, wrongArea, noHandle, listInUse}
+use Rattle.common.specs.Answers.{done, wrong_area, no_handle_answer, list_in_use}
 use Rattle.common.specs.Choice.{if}
 use Rattle.lists.specs.declared.Area.{Area}
 use Rattle.lists.specs.Area.{standing, has}
@@ -70,12 +70,12 @@ module _ (a : Area) (handle : ℕ) (playing : Bool) where
     where
       go :
           (s t p : Bool) → standing a ≡ s → taken a handle ≡ t → playing ≡ p →
-          if s (if t (if p listInUse done) noHandle) wrongArea ≡ done → Served a handle playing
+          if s (if t (if p list_in_use done) no_handle_answer) wrong_area ≡ done → Served a handle playing
       go true true true e f g z = absurd (omega arith)
       go true true false e f g z = let t = taken_is a handle f in record { below = t.0; on = t.1; idle = g }
       go true false p e f g z = absurd (omega arith)
       go false t p e f g z = absurd (omega arith)
 
-  pub removal_refused : standing a ≡ true → handle < 64 → has a handle ≡ true → playing ≡ true → remove_answer a handle playing ≡ listInUse
+  pub removal_refused : standing a ≡ true → handle < 64 → has a handle ≡ true → playing ≡ true → remove_answer a handle playing ≡ list_in_use
   unfolding remove_answer taken
   removal_refused s l h p = simp (s, lt-ltb handle 64 l, h, p)

@@ -1,12 +1,12 @@
 -- 02, L12: what the rule that a list in use can't be removed gives: the words of a list that plays stay; and a channel comes to the room of
 -- a removed one only by its first word.
 use Rattle.std.specs.Prelude.{◌≡◌, true, false, List, [], ◌∷◌, ℕ, ◌+◌, ◌*◌, ◌%◌, ◌<◌, ◌≤◌, length}
-use Rattle.common.specs.Answers.{done, listInUse}
+use Rattle.common.specs.Answers.{done, list_in_use}
 use Rattle.words.specs.Words.{has_stop}
 use Rattle.chip.specs.Channels.{LeftAlone}
 use Rattle.runs.specs.World.{World}
 use Rattle.runs.specs.Call.{Call, remove, Reply}
-use Rattle.runs.specs.Sort.{onLine, onLend}
+use Rattle.runs.specs.Sort.{on_line, on_lend}
 use Rattle.runs.specs.Run.{Made, Makes, Run, Each}
 use Rattle.runs.specs.Reached.{Reached}
 use Rattle.forecast.specs.Rule.{words_of}
@@ -30,12 +30,12 @@ pub record Begins (n k : ℕ) (w : World) : Type 0 where
 pub record Spares (n : ℕ) (e : Made) : Type 0 where
   pub hands : HandsRoom e.asks
   pub alone :
-      e.reply.answer ≡ done → onLine (λ a. Unit {0}) (LeftAlone (channel e.before.chip n) (channel e.after.chip n)) e.asks
+      e.reply.answer ≡ done → on_line (λ a. Unit {0}) (LeftAlone (channel e.before.chip n) (channel e.after.chip n)) e.asks
 
 -- as long as the channel has not executed the STOP: removing the list is refused by 22; and the list's words stay, so that the run so far
 -- meets demand 3's premise, and so does a line step that comes next
 pub record StaysInUse (n k : ℕ) (w v : World) (es : List Made) : Type 0 where
-  pub refused : {u : World} {r : Reply} → Makes v (remove k) r u → r.answer ≡ listInUse
+  pub refused : {u : World} {r : Reply} → Makes v (remove k) r u → r.answer ≡ list_in_use
   pub allowed : Each (Allowed n w.lent.ram (start_at w k)) es
   pub lent : Lent w.lent.ram (start_at w k) v.lent.ram
 
@@ -43,7 +43,7 @@ pub record StaysInUse (n k : ℕ) (w v : World) (es : List Made) : Type 0 where
 
 -- line steps alone follow; the host may lend other buffers
 abbrev pub LinesAlone : Call → Type 0
-LinesAlone c = onLine (λ a. Unit {0}) (onLend (λ l. Unit {0}) ⊥ c) c
+LinesAlone c = on_line (λ a. Unit {0}) (on_lend (λ l. Unit {0}) ⊥ c) c
 
 -- an address in the room from s up to but not at e
 pub record In (s e address : ℕ) : Type 0 where

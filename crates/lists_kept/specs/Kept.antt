@@ -7,7 +7,7 @@ use Rattle.lists.specs.Room.{start_of, end_of, place_at}
 use Rattle.chip.specs.Editors.{lists_of}
 use Rattle.runs.specs.World.{World}
 use Rattle.runs.specs.Call.{Told, nothing, byte, vector, report, placed}
-use Rattle.runs.specs.Sort.{onPlace}
+use Rattle.runs.specs.Sort.{on_place}
 use Rattle.runs.specs.Run.{Made, Each}
 use Rattle.lists_kept.specs.Session.{Session}
 
@@ -49,7 +49,7 @@ handle_in (placed a h) = h
 
 abbrev pub placed_by : Made → (ℕ → List ℕ) → ℕ → List ℕ
 placed_by e f =
-    onPlace (λ list. served e.reply.answer (λ k. if (eqb k (handle_in e.reply.told)) list (f k)) f) f e.asks
+    on_place (λ list. served e.reply.answer (λ k. if (eqb k (handle_in e.reply.told)) list (f k)) f) f e.asks
 
 abbrev pub placed_over : (ℕ → List ℕ) → List Made → ℕ → List ℕ
 placed_over f [] = f

@@ -11,7 +11,7 @@ use lib.ListN.{length, take, drop, get_or, set, length-append, length-map}
 use lib.Seq.{sets, sets-eq, length-take-le}
 use Rattle.common.proofs.Lists.{sets-append}
 use Rattle.common.specs.Choice.{if, both}
-use Rattle.common.specs.Answers.{done, wrongLength, noRoomForStop, reportTooSmall}
+use Rattle.common.specs.Answers.{done, wrong_length, no_room_for_stop, report_too_small}
 use Rattle.mend.specs.Rule.{mended, stop, mended_words, mended_list, mended_buffer, changes_from, changes_of, numbers_of, report_after, mend_answer}
 use Rattle.mend.specs.Contract.{Mending}
 use Rattle.mend.specs.Passes.{added, refusal, Sees, MendsWords}
@@ -29,15 +29,15 @@ refuses :
 refuses e n t =
     rw t (record { answer = sym e; words = rw n; changes = rw n; buffer-after = rw n; report-after = rw n })
 
-pub more-in-use :
-    {buffer report : List ℕ} {used : ℕ} {r : Mended} → length buffer < used → r ≡ refusal wrongLength →
+pub more_in_use :
+    {buffer report : List ℕ} {used : ℕ} {r : Mended} → length buffer < used → r ≡ refusal wrong_length →
     Mending buffer used report buffer report r
 unfolding mend_answer
-more-in-use {buffer} {used = used} h t = refuses (rw (lt-ltb (length buffer) used h)) refl t
+more_in_use {buffer} {used = used} h t = refuses (rw (lt-ltb (length buffer) used h)) refl t
 
 pub no_room :
     {buffer report : List ℕ} {used changes : ℕ} {r : Mended} → Sees buffer used changes false → used ≡ length buffer →
-    r ≡ refusal noRoomForStop → Mending buffer used report buffer report r
+    r ≡ refusal no_room_for_stop → Mending buffer used report buffer report r
 unfolding mend_answer
 no_room {buffer} {used = used} s h t =
     refuses (rw (le-ltb (length buffer) used s.within, ← s.stopping, eq-eqb used (length buffer) h)) refl t
@@ -51,24 +51,24 @@ module _ {buffer : List ℕ} {used changes : ℕ} {stopped : Bool} (s : Sees buf
   list_count : length (mended_list buffer used) ≡ used + length (if stopped [] (stop ∷ []))
   list_count = rw (list-is, length-append, length-map, length-take-le used buffer s.within)
 
-  changes-are : changes_of buffer used ≡ changes_from 0 (take used buffer) ++ if stopped [] (added buffer used ∷ [])
+  changes_are : changes_of buffer used ≡ changes_from 0 (take used buffer) ++ if stopped [] (added buffer used ∷ [])
   unfolding changes_of
-  changes-are = rw s.stopping
+  changes_are = rw s.stopping
 
   changes-count : length (changes_of buffer used) ≡ changes + length (if stopped [] (added buffer used ∷ []))
-  changes-count = rw (changes-are, length-append, ← s.changing)
+  changes-count = rw (changes_are, length-append, ← s.changing)
 
   -- one stands there or has room
   module _ (n : both (not stopped) (eqb used (length buffer)) ≡ false) where
     by-room :
         (report : List ℕ) →
-        mend_answer buffer used report ≡ if (ltb (length report / 2) (length (changes_of buffer used))) reportTooSmall done
+        mend_answer buffer used report ≡ if (ltb (length report / 2) (length (changes_of buffer used))) report_too_small done
     unfolding mend_answer
     by-room report = rw (le-ltb (length buffer) used s.within, ← s.stopping, n)
 
     pub too_small :
         {report : List ℕ} {r : Mended} → length report / 2 < changes + length (if stopped [] (added buffer used ∷ [])) →
-        r ≡ refusal reportTooSmall → Mending buffer used report buffer report r
+        r ≡ refusal report_too_small → Mending buffer used report buffer report r
     too_small {report} h t =
         let f = lt-ltb (length report / 2) (length (changes_of buffer used)) (omega (arith, changes-count)) in
         refuses (by-room report ∙ rw f) refl t
@@ -98,18 +98,18 @@ pub stopped-served :
     Mending buffer used report buffer' report' (record { answer = done; used = used; changes = changes })
 stopped-served s h m =
     served s refl (omega arith) s.within (rw (list-is s, append-nil) m.words) (omega arith) h
-    (rw (changes-are s, append-nil) m.told)
+    (rw (changes_are s, append-nil) m.told)
 
-pub open-served :
+pub open_served :
     {buffer report words told report' : List ℕ} {used changes : ℕ} → Sees buffer used changes false → used < length buffer →
     changes < length report / 2 → MendsWords buffer used report words told →
     report' ≡ sets told (changes * 2) (used ∷ (get_or buffer used 0 * 65536 + stop) ∷ []) →
     Mending buffer used report (set words used stop) report' (record { answer = done; used = used + 1; changes = changes + 1 })
 unfolding numbers_of
-open-served {buffer} {used = used} {changes} s k h m e =
+open_served {buffer} {used = used} {changes} s k h m e =
     let ws = map mended (take used buffer) in
     let cs = changes_from 0 (take used buffer) in
     let a : 0 + length ws ≡ used = rw (length-map, length-take-le used buffer s.within) (omega arith) in
     let b : 0 + length (numbers_of cs) ≡ changes * 2 = omega (arith, s.changing, numbers_length cs) in
     served s (ne_eqb used (length buffer) (omega arith)) refl (omega arith) (rw (list-is s, m.words, ← sets-append, a)) refl (omega arith)
-    (e ∙ rw (changes-are s, numbers_append, ← sets-append, b, m.told))
+    (e ∙ rw (changes_are s, numbers_append, ← sets-append, b, m.told))

@@ -1,6 +1,6 @@
 -- 02, L10: what mending makes of the words of a list, and which of them it changes.
 use Rattle.std.specs.Prelude.{Bool, true, false, not, List, [], ◌∷◌, map, ◌++◌, ℕ, suc, ◌+◌, ◌*◌, ◌/◌, ◌%◌, eqb, ltb, length, take, drop, get_or}
-use Rattle.common.specs.Answers.{done, wrongLength, noRoomForStop, reportTooSmall}
+use Rattle.common.specs.Answers.{done, wrong_length, no_room_for_stop, report_too_small}
 use Rattle.common.specs.Choice.{if, both, of_bool}
 use Rattle.words.specs.Words.{kind_of, low12, loop_bit, int_bit, stop_bit, has_stop}
 use Rattle.words.specs.declared.WordKind.{WordKind}
@@ -107,7 +107,7 @@ change_at report i =
 
 unfoldable pub mend_answer : List ℕ → ℕ → List ℕ → ℕ
 mend_answer buffer used report =
-    if (ltb (length buffer) used) wrongLength
-    (if (both (not (has_stop (in_use_of buffer used))) (eqb used (length buffer))) noRoomForStop
-    (if (ltb (room_of report) (length (changes_of buffer used))) reportTooSmall
+    if (ltb (length buffer) used) wrong_length
+    (if (both (not (has_stop (in_use_of buffer used))) (eqb used (length buffer))) no_room_for_stop
+    (if (ltb (room_of report) (length (changes_of buffer used))) report_too_small
     done))

@@ -7,7 +7,7 @@ use Rattle.words.specs.Words.{has_stop}
 use Rattle.sound.specs.declared.Access.{Access}
 use Rattle.sound.specs.declared.Channel.{Channel}
 use Rattle.runs.specs.World.{World}
-use Rattle.runs.specs.Sort.{onLine}
+use Rattle.runs.specs.Sort.{on_line}
 use Rattle.runs.specs.Run.{Made, Run, Each}
 use Rattle.forecast.specs.Rule.{Has, lines_forecast, cycles_meeting, answer_of}
 use Rattle.forecast.specs.Demand.{channel}
@@ -43,7 +43,7 @@ pub record Plays (words mended : List ℕ) (start : ℕ) (old new : List Line) :
 abbrev pub Lends : ℕ → ℕ → List ℕ → Made → Type 0
 Lends n start words e =
     e.reply.answer ≡ done →
-    onLine (λ a. Has e.before.lent.ram start words) (channel e.after.chip n ≡ channel e.before.chip n) e.asks
+    on_line (λ a. Has e.before.lent.ram start words) (channel e.after.chip n ≡ channel e.before.chip n) e.asks
 
 -- ---- the forecasts of a list on two RAMs are both served and the same: lines at every prescale, and the cycles whatever each LOAD meets,
 -- so the least and the most

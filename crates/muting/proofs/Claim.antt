@@ -11,7 +11,7 @@ use Rattle.chip.specs.State.{with_sound}
 use Rattle.chip.specs.Step.{stepped, counters_stepped}
 use Rattle.runs.specs.World.{World, Buffers}
 use Rattle.runs.specs.Call.{Call, Reply, reply_to, world_after}
-use Rattle.runs.specs.Sort.{onLine}
+use Rattle.runs.specs.Sort.{on_line}
 use Rattle.runs.specs.Run.{Made, Makes, Run, ended, on, Each}
 use Rattle.runs.specs.Pair.{Beside, SameReplies}
 use Rattle.runs.specs.Pair as pair
@@ -68,7 +68,7 @@ heard-one {w} {v} c {r} m z = go (line_view w c)
 
     go :
         LineView w c →
-        onLine
+        on_line
         (λ a. v.chip.sound.psg ≡ psg_after w.chip.sound.psg w.chip.sound.channels (report_in r.told).entries) (Unit {0}) c
     go (one a l) = rw l.sorts (psg-by a l)
     go (other e) = rw e tt

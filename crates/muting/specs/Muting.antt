@@ -7,7 +7,7 @@ use Rattle.sound.specs.Line.{channel_of, channel_after, did_on, psg_after}
 use Rattle.chip.specs.State.{with_sound}
 use Rattle.runs.specs.World.{World}
 use Rattle.runs.specs.Call.{Call}
-use Rattle.runs.specs.Sort.{onLine}
+use Rattle.runs.specs.Sort.{on_line}
 use Rattle.runs.specs.Run.{Made, Run, Each}
 use Rattle.runs.specs.Pair.{Beside, SameReplies, Throughout}
 use Rattle.forecast.specs.Demand.{report_in}
@@ -43,7 +43,7 @@ pub record MovesNothing (k : ℕ) (w v : World) {es fs : List Made} (b : Beside 
 abbrev pub Heard : Made → Type 0
 Heard e =
     e.reply.answer ≡ done →
-    onLine
+    on_line
     (λ a.
     e.after.chip.sound.psg
     ≡ psg_after e.before.chip.sound.psg e.before.chip.sound.channels (report_in e.reply.told).entries)

@@ -6,7 +6,7 @@ use borrow.Author.Tests.{ltb-true}
 use native.Mathlib.Omega.{arith}
 use lib.Dec.{ltb}
 use lib.ListN.{length}
-use Rattle.common.specs.Answers.{done, nothingThere}
+use Rattle.common.specs.Answers.{done, nothing_there}
 use Rattle.common.specs.Choice.{if}
 use Rattle.chip.specs.Mute.{mute_answer, mute_set}
 use Rattle.editors.specs.declared.Editor.{Editor}
@@ -46,7 +46,7 @@ below : (k : ℕ) → mute_answer k ≡ done → k < 3
 unfolding mute_answer
 below k z = go (ltb k 3) refl z
   where
-    go : (t : Bool) → ltb k 3 ≡ t → if t done nothingThere ≡ done → k < 3
+    go : (t : Bool) → ltb k 3 ≡ t → if t done nothing_there ≡ done → k < 3
     go true e z = ltb-true k 3 e
     go false e z = absurd (omega arith)
 

@@ -6,7 +6,7 @@ use Prim.Native.Nat.{ℕ, zero, suc, ◌/◌, ◌%◌}
 use native.Mathlib.Omega.{arith}
 use lib.Dec.{ltb}
 use lib.ListN.{length}
-use Rattle.common.specs.Answers.{done, notYours}
+use Rattle.common.specs.Answers.{done, not_yours}
 use Rattle.common.specs.Choice.{if, both, either, bit}
 use Rattle.editors.specs.declared.Editor.{Editor}
 use Rattle.editors.specs.declared.Editor.TheVariants.{Song, Picture}
@@ -64,7 +64,7 @@ or_false false h = h
 
 -- IVR can be written by neither
 pub ivr_not : (t : Table) (e : Editor) {A : Type 0} → t.held ≡ true → register_answer t e Ivr ≡ done → A
-ivr_not t e held h = absurd (let z : notYours ≡ done = rw held at h in omega arith)
+ivr_not t e held h = absurd (let z : not_yours ≡ done = rw held at h in omega arith)
 
 module _ (t : Table) (held : t.held ≡ true) (e : Editor) where
   -- ---- the same byte put on both by one editor

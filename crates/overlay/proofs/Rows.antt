@@ -105,9 +105,9 @@ module _ (s : Sprite) (y : ℕ) where
   pub none-off : s.magnification ≡ 0 → OnLine s y 16
   none-off off = none-across (rw off)
 
-  pub on_line : {row : ℕ} → Cell (y_scale s) (pos y -ℤ s.y) row → Magnification (x_scale s) → OnLine s y row
+  pub on_line_lem : {row : ℕ} → Cell (y_scale s) (pos y -ℤ s.y) row → Magnification (x_scale s) → OnLine s y row
   unfolding pixel_at
-  on_line cell is =
+  on_line_lem cell is =
       record {
         bound = cell.bound;
         none = λ e store n x. rw e at (cell.gives (row_of store n x));

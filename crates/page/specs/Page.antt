@@ -1,6 +1,6 @@
 -- 01, "The register page", with 02, L9: page reads and writes, by the editor that makes them.
 use Rattle.std.specs.Prelude.{◌≡◌, List, ◌∷◌, ℕ, ◌%◌, eqb, leb, ltb, length, set, take}
-use Rattle.common.specs.Answers.{done, wrongLength, notMapped, served}
+use Rattle.common.specs.Answers.{done, wrong_length, not_mapped, served}
 use Rattle.common.specs.Choice.{if, both}
 use Rattle.common.specs.Sizes.{store_bytes}
 use Rattle.editors.specs.declared.Editor.{Editor}
@@ -18,7 +18,7 @@ use Rattle.page.specs.UndoRecord.{is_kept, entry_at, record_in, undo_after}
 -- the pixel store has 4,096 bytes; the page is 4000h to 7FFFh, while mapped. The rest is as given
 unfoldable pub page_answer : Chip → ℕ → ℕ → ℕ → ℕ
 page_answer c size a rest =
-    if (eqb size store_bytes) (if (both (both (leb 0x4000 a) (ltb a 0x8000)) c.gate.mapped) rest notMapped) wrongLength
+    if (eqb size store_bytes) (if (both (both (leb 0x4000 a) (ltb a 0x8000)) c.gate.mapped) rest not_mapped) wrong_length
 
 unfoldable pub read_answer : Chip → ℕ → ℕ → ℕ
 read_answer c size a = page_answer c size a done

@@ -1,6 +1,6 @@
 -- Serves only the code's own parts, in the contracts of private functions. No public promise cites it.
 use Rattle.std.specs.Prelude.{◌≡◌, List, ℕ, ◌%◌, eqb, length}
-use Rattle.common.specs.Answers.{done, wrongLength, nothingToUndo, served}
+use Rattle.common.specs.Answers.{done, wrong_length, nothing_to_undo, served}
 use Rattle.common.specs.Choice.{if}
 use Rattle.common.specs.Sizes.{store_bytes}
 use Rattle.ring.specs.declared.Undo.{Undo}
@@ -40,7 +40,7 @@ undo_change u e =
 -- undo, by the size of the store and whether an entry is left
 abbrev pub back_change : Undo → ℕ → ℕ → Change
 back_change u size e =
-    if (eqb size store_bytes) (if (eqb u.count 0) (refusal u nothingToUndo) (undo_change u e)) (refusal u wrongLength)
+    if (eqb size store_bytes) (if (eqb u.count 0) (refusal u nothing_to_undo) (undo_change u e)) (refusal u wrong_length)
 
 -- what an editor's edit changes, with what stands at the record's place
 abbrev pub change_of : Chip → Editor → List ℕ → ℕ → Edit → Change

@@ -1,6 +1,6 @@
 -- 02, L5 and L9: undo takes back the newest write that the editor's record has left.
 use Rattle.std.specs.Prelude.{◌≡◌, List, ℕ, eqb, length}
-use Rattle.common.specs.Answers.{done, wrongLength, nothingToUndo, served}
+use Rattle.common.specs.Answers.{done, wrong_length, nothing_to_undo, served}
 use Rattle.common.specs.Choice.{if}
 use Rattle.common.specs.Sizes.{store_bytes}
 use Rattle.ring.specs.Ring.{popped, head, tail}
@@ -15,7 +15,7 @@ use Rattle.page.specs.UndoRecord.{entry_register_of, entry_contents, record_in}
 
 -- a store of another length, then an empty record; whether the page is mapped or the chip locked doesn't matter
 unfoldable pub undo_answer : Chip → Editor → ℕ → ℕ
-undo_answer c e size = if (eqb size store_bytes) (if (eqb (undo_of c.editing e).count 0) nothingToUndo done) wrongLength
+undo_answer c e size = if (eqb size store_bytes) (if (eqb (undo_of c.editing e).count 0) nothing_to_undo done) wrong_length
 
 -- the editor's newest entry
 abbrev pub newest : Chip → Editor → List ℕ → ℕ

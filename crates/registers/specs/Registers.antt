@@ -1,6 +1,6 @@
 -- 01, "The register page", with 02, L9: what a byte that an editor writes to a register does, and what a register reads as to it.
 use Rattle.std.specs.Prelude.{Bool, false, not, List, [], ◌∷◌, ℕ, ◌+◌, ◌-◌, ◌*◌, ◌/◌, ◌%◌, ltb, get_or, set}
-use Rattle.common.specs.Answers.{done, nothingThere, converterThere, notYours}
+use Rattle.common.specs.Answers.{done, nothing_there, converter_there, not_yours}
 use Rattle.common.specs.Choice.{if, both, bit}
 use Rattle.editors.specs.declared.Editor.{Editor}
 use Rattle.editors.specs.declared.Table.{Table}
@@ -23,7 +23,7 @@ use Rattle.registers.specs.Owners.{owns, owns_channel}
 
 -- what a write answers where a register keeps contents: one that is not the editor's is refused
 abbrev pub owner_answer : Bool → ℕ
-owner_answer owned = if owned done notYours
+owner_answer owned = if owned done not_yours
 
 -- what a write to any register answers: DCSR is served for both editors; a converter has a number of its own; no register, or one
 -- that only shows DCSR, has another
@@ -33,11 +33,11 @@ register_answer t e (SpriteAt n p) = owner_answer (owns t e (SpriteAt n p))
 register_answer t e (Palette i) = owner_answer (owns t e (Palette i))
 register_answer t e (VideoAt v) = owner_answer (owns t e (VideoAt v))
 register_answer t e Ivr = owner_answer (owns t e Ivr)
-register_answer t e Converter = converterThere
+register_answer t e Converter = converter_there
 register_answer t e (ChannelAt n r) = owner_answer (owns t e (ChannelAt n r))
 register_answer t e Dcsr = done
-register_answer t e Status = nothingThere
-register_answer t e Empty = nothingThere
+register_answer t e Status = nothing_there
+register_answer t e Empty = nothing_there
 
 -- sprite n's register at this place gets the byte
 abbrev pub sprite_written : List Sprite → ℕ → ℕ → ℕ → List Sprite

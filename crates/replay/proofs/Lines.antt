@@ -17,7 +17,7 @@ use Rattle.chip.specs.declared.line.Moved.{Moved}
 use Rattle.chip.specs.Step.{step_answer, counters_stepped, stepped, Moves}
 use Rattle.runs.specs.World.{World, with_chip}
 use Rattle.runs.specs.Call.{Call, step, answer_to, world_after}
-use Rattle.runs.specs.Sort.{onLine}
+use Rattle.runs.specs.Sort.{on_line}
 use Rattle.runs.specs.Run.{world_over}
 use Rattle.take.specs.declared.Record.{Record}
 use Rattle.replay.specs.Replay.{Progress, call_by, off, lines_then, later, calls_from, refusal_counted, over, replayed}
@@ -90,7 +90,7 @@ few-over p cs more (one {c} e h u) =
     let next = refusal_counted p.counts (answer_to p.world c) in
     let same :
     ◌≡◌ {A = Progress}
-    (record { world = w; lines = onLine (λ a. suc p.lines) p.lines c; counts = onLine (λ a. p.counts) next c })
+    (record { world = w; lines = on_line (λ a. suc p.lines) p.lines c; counts = on_line (λ a. p.counts) next c })
     (record { world = w; lines = p.lines; counts = next }) =
     rw e in
     ap (λ (x : Progress). over x more) same

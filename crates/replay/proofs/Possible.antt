@@ -14,7 +14,7 @@ use Rattle.runs.specs.Run.{made_over, world_over}
 use Rattle.runs.proofs.Calls.{AllPlaces}
 use Rattle.runs.proofs.Runs.{Every, every-joined, Whole, AllWhole, run-possible, calls-over}
 use Rattle.take.specs.declared.Record.{Record}
-use Rattle.replay.specs.Replay.{fresh as atReset, call_by, off, lines_then, later, calls_from, replayed}
+use Rattle.replay.specs.Replay.{fresh as at_reset, call_by, off, lines_then, later, calls_from, replayed}
 use Rattle.replay.specs.ByHand.{ByHand}
 use Rattle.replay.proofs.Slots.{Unseen, area-stays}
 use Rattle.replay.proofs.Asks.{Few, none, one, few}
@@ -65,7 +65,7 @@ reset_no_area = refl
 
 pub replayed_no_area :
     (ram store song picture : List ℕ) (o : Owners) (rs : List Record) →
-    lists_of (replayed o (atReset ram store song picture) rs).world.chip ≡ no_lists
+    lists_of (replayed o (at_reset ram store song picture) rs).world.chip ≡ no_lists
 unfolding replayed
 replayed_no_area ram store song picture o rs =
-    area-stays (calls_from o 0 rs) (atReset ram store song picture).world (calls_unseen o 0 rs) ∙ reset_no_area
+    area-stays (calls_from o 0 rs) (at_reset ram store song picture).world (calls_unseen o 0 rs) ∙ reset_no_area

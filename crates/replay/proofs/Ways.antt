@@ -6,7 +6,7 @@ use mathlib.Core.List.{List}
 use Prim.Native.Nat.{ℕ}
 use lib.Dec.{eqb}
 use lib.ListN.{length}
-use Rattle.common.specs.Answers.{badRecord}
+use Rattle.common.specs.Answers.{bad_record}
 use Rattle.common.specs.Choice.{if}
 use Rattle.editors.specs.declared.Owners.{Owners}
 use Rattle.chip.specs.Editors.{lists_of}
@@ -39,7 +39,7 @@ module _ {ram store song picture file : List ℕ} {o : Owners} {p : Player} {r :
   -- refused: nothing is played
   refused :
       {number first : ℕ} → number ≡ replay_answer ram store file → (number ≡ 0 → ⊥) →
-      first ≡ if (eqb (replay_answer ram store file) badRecord) (first_bad (records_of file)) 0 →
+      first ≡ if (eqb (replay_answer ram store file) bad_record) (first_bad (records_of file)) 0 →
       Begun p.chip p.lines p.counts → Tells number first p r → Replays ram store song picture o file store song picture r
   unfolding outcome
   refused e n f b t =

@@ -10,7 +10,7 @@ use Rattle.chip.specs.Reset.{reset_chip}
 use Rattle.take.specs.declared.Record.{Record}
 use Rattle.runs.specs.World.{World, world_of}
 use Rattle.runs.specs.Call.{Call, bc, bd, gate, write, undo, ack, step, start, mute}
-use Rattle.runs.specs.Sort.{onLine}
+use Rattle.runs.specs.Sort.{on_line}
 use Rattle.runs.specs.Run.{Made, made_over, world_over}
 
 -- the call of a record by its kind: 1 to 3 write to BCxx, BDxx and 7Fxx; by 4 the song editor writes to the page and by 6 it takes a
@@ -57,11 +57,11 @@ refusal_counted counts answer = if (eqb answer done) counts (set counts answer (
 -- the lines stepped, and how often each refusal number has come to a call other than a line step, over a run
 abbrev pub lines_over : ℕ → List Made → ℕ
 lines_over at [] = at
-lines_over at (e ∷ es) = lines_over (onLine (λ a. suc at) at e.asks) es
+lines_over at (e ∷ es) = lines_over (on_line (λ a. suc at) at e.asks) es
 
 abbrev pub counts_over : List ℕ → List Made → List ℕ
 counts_over counts [] = counts
-counts_over counts (e ∷ es) = counts_over (onLine (λ a. counts) (refusal_counted counts e.reply.answer) e.asks) es
+counts_over counts (e ∷ es) = counts_over (on_line (λ a. counts) (refusal_counted counts e.reply.answer) e.asks) es
 
 -- how far a replay is: the chip with the lent RAM, store and places of both records, the lines stepped since reset, and those counts
 pub record Progress : Type 0 where

@@ -20,7 +20,7 @@ use Rattle.chip.specs.declared.Chip.{Chip}
 use Rattle.chip.specs.Interrupts.{of_raster, channel_for, source_on, cleared, with_cleared, interrupts_served, sound_served, acknowledged}
 use Rattle.chip.specs.Mute.{channels_muted, mute_set}
 use Rattle.chip.specs.State.{with_sound, with_interrupts}
-use Rattle.chip.specs.Step.{stepped as steppedChip, counters_stepped}
+use Rattle.chip.specs.Step.{stepped as stepped_chip, counters_stepped}
 use Rattle.contents.specs.Widths.{ChannelWidths, Widths}
 use Rattle.contents.proofs.WidthsLaws.{off-channel, with-sound}
 
@@ -157,9 +157,9 @@ muted-widths c k on w =
     (rw (length-set c.sound.channels k (with_mute (channel_of c.sound.channels k) on)) w.three)
     (λ n. after-set ChannelWidths c.sound.channels k n _ off_channel (w.channel n) (λ e. same (channel_of c.sound.channels k) (w.channel k)))
 
-pub stepped-widths : (ram : List ℕ) (c : Chip) → Widths c → Widths (steppedChip ram c)
-unfolding steppedChip counters_stepped sound_after
+pub stepped-widths : (ram : List ℕ) (c : Chip) → Widths c → Widths (stepped_chip ram c)
+unfolding stepped_chip counters_stepped sound_after
 stepped-widths ram c k =
     let s = sound_after ram c.sound in
-    beside (with_sound c s) (steppedChip ram c) refl refl refl refl refl
+    beside (with_sound c s) (stepped_chip ram c) refl refl refl refl refl
     (with-sound c k s refl (λ n. line-widths ram c.sound.channels n k.channel))

@@ -11,7 +11,7 @@ use Rattle.chip.specs.Reset.{Reset}
 use Rattle.contents.specs.Widths.{Bytes}
 use Rattle.runs.specs.World.{World, edited}
 use Rattle.runs.specs.Call.{Call, Typed, world_after}
-use Rattle.runs.specs.Sort.{sort_of, found, editor_in, onEdit, onLend}
+use Rattle.runs.specs.Sort.{sort_of, found, editor_in, on_edit, on_lend}
 use Rattle.runs.specs.Run.{made_over, world_over}
 use Rattle.runs.specs.Trace.{lent_on, handed_to, LentTo, handed_over, HandsOn, snapshots_over, Trace}
 use Rattle.runs.proofs.Calls.{by_answer, other-places, AllPlaces}
@@ -20,7 +20,7 @@ use Rattle.runs.proofs.Runs.{Every, every, each-made, Whole, lends-whole, run-po
 
 -- nothing else is lent on the way
 abbrev pub Kept : Call → Type 0
-Kept c = onLend (λ l. ⊥) (Unit {0}) c
+Kept c = on_lend (λ l. ⊥) (Unit {0}) c
 
 abbrev pub AllKept : List Call → Type 0
 AllKept cs = Every Kept cs
@@ -39,7 +39,7 @@ stays-hands {ed} w another = rw (same-other ed) refl
 -- what a call hands on is what is lent after it
 one-hands :
     (ed : Editor) (w : World) (c : Call) → View w c → Kept c →
-    onEdit (λ f. handed_to (same ed f) (world_after w c) ed (lent_on w ed)) (lent_on w ed) c ≡ lent_on (world_after w c) ed
+    on_edit (λ f. handed_to (same ed f) (world_after w c) ed (lent_on w ed)) (lent_on w ed) c ≡ lent_on (world_after w c) ed
 one-hands ed w c (feeds b l) k = refl
 one-hands ed w c (writes f a b e) k =
     by_answer (λ v. handed_to (same ed f) v ed (lent_on w ed) ≡ lent_on v ed) w c (λ z. edit_hands w _ _ _ (which ed f)) (stays-hands w (which ed f))
@@ -54,7 +54,7 @@ lent-here : (q : Bool) (w : World) (ed : Editor) → LentTo q w ed (lent_on w ed
 lent-here true w ed = refl
 lent-here false w ed = refl
 
-hands-here : (ed : Editor) (w : World) (c : Call) → onEdit (λ f. LentTo (same ed f) w ed (lent_on w ed)) (Unit {0}) c
+hands-here : (ed : Editor) (w : World) (c : Call) → on_edit (λ f. LentTo (same ed f) w ed (lent_on w ed)) (Unit {0}) c
 hands-here ed w c = go (editor_in (sort_of c))
   where
     go : (fs : List Editor) → found (λ f. LentTo (same ed f) w ed (lent_on w ed)) (Unit {0}) fs

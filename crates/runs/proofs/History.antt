@@ -9,7 +9,7 @@ use Rattle.editors.specs.declared.Editor.{Editor}
 use Rattle.chip.specs.declared.Chip.{Chip}
 use Rattle.chip.specs.Editors.{started}
 use Rattle.chip.specs.Ports.{selected}
-use Rattle.chip.specs.Step.{stepped as steppedChip, counters_stepped}
+use Rattle.chip.specs.Step.{stepped as stepped_chip, counters_stepped}
 use Rattle.registers.specs.declared.address.Register.{Register}
 use Rattle.registers.specs.declared.address.Register.TheVariants.{Pixel, Sprite, Palette, Video, Ivr, Converter, Channel, Dcsr, Status, Empty}
 use Rattle.registers.specs.Address.{register_at}
@@ -42,7 +42,7 @@ edit_lock {w} {ed = ed} {address = address} {byte = byte} e = rw e.chip (page_lo
 -- the lock goes on by the byte of a BCxx write, which is always served, and no other call touches it
 call-tracks :
     (w : World) (c : Call) → View w c → (h : List ℕ) → Tracks h w.chip.lock → Tracks (fed_by (sort_of c) h) (world_after w c).chip.lock
-unfolding selected steppedChip counters_stepped started
+unfolding selected stepped_chip counters_stepped started
 call-tracks w c (feeds b l) h t = (fed-lock w.chip.lock b _ refl).tracks h t
 call-tracks w c (writes ed a b e) h t = by_answer (λ v. Tracks h v.chip.lock) w c (λ z. rw (edit_lock e) t) t
 call-tracks w c (undoes ed e) h t = by_answer (λ v. Tracks h v.chip.lock) w c (λ z. rw (edit_lock e) t) t

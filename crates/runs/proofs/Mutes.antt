@@ -17,7 +17,7 @@ use Rattle.chip.specs.declared.Chip.{Chip}
 use Rattle.chip.specs.Ports.{selected, data_written, gate_written}
 use Rattle.chip.specs.Editors.{started}
 use Rattle.chip.specs.Mute.{channels_muted}
-use Rattle.chip.specs.Step.{stepped as steppedChip, counters_stepped}
+use Rattle.chip.specs.Step.{stepped as stepped_chip, counters_stepped}
 use Rattle.chip.proofs.ChannelLaws.{acknowledge_mutes}
 use Rattle.registers.specs.Address.{register_at}
 use Rattle.registers.proofs.ChannelWrites.{page_mutes}
@@ -51,7 +51,7 @@ lines_leave ram c (suc (suc zero)) h = mark-stays ram (channel_of c.sound.channe
 lines_leave ram c (suc (suc (suc n))) h = absurd (omega arith)
 
 pub mute-view : (c : Call) → MuteView c
-unfolding selected data_written gate_written page_written undone steppedChip counters_stepped sound_after started
+unfolding selected data_written gate_written page_written undone stepped_chip counters_stepped sound_after started
 mute-view (bc b) = stays (λ w n h. refl)
 mute-view (bd b) = stays (λ w n h. refl)
 mute-view (gate b) = stays (λ w n h. refl)

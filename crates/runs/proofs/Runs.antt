@@ -14,7 +14,7 @@ use Rattle.page.specs.UndoRecord.{is_kept, entry_at}
 use Rattle.page.specs.Page.{places_after}
 use Rattle.runs.specs.World.{World, places_of, edited, Loan, lent_ram, lent_store, lent_places, lent_slots, lent_by}
 use Rattle.runs.specs.Call.{Call, lend, served_world, reply_to, world_after}
-use Rattle.runs.specs.Sort.{onLend}
+use Rattle.runs.specs.Sort.{on_lend}
 use Rattle.runs.specs.Run.{Made, Run, ended, on, calls_of, Each, made_over, world_over}
 use Rattle.runs.proofs.Calls.{by_answer, fixed, AllPlaces, possible}
 use Rattle.runs.proofs.Views.{View, feeds, writes, undoes, steps, starts, lends, plain, view}
@@ -74,7 +74,7 @@ WholeLoan (lent_places e l) = length l ≡ 256
 WholeLoan (lent_slots l) = Unit {0}
 
 abbrev pub Whole : Call → Type 0
-Whole c = onLend WholeLoan (Unit {0}) c
+Whole c = on_lend WholeLoan (Unit {0}) c
 
 abbrev pub AllWhole : List Call → Type 0
 AllWhole cs = Every Whole cs

@@ -17,9 +17,9 @@ use Rattle.editors.specs.Table.{other, same}
 use Rattle.editors.proofs.Which.{Which, own, another, which, same_self, same-other}
 use Rattle.ring.specs.Ring.{record_of, tail}
 use Rattle.chip.specs.declared.Chip.{Chip}
-use Rattle.chip.specs.Editors.{undo_of, started as startedChip}
+use Rattle.chip.specs.Editors.{undo_of, started as started_chip}
 use Rattle.chip.specs.Reset.{reset_chip}
-use Rattle.chip.specs.Step.{stepped as steppedChip, counters_stepped}
+use Rattle.chip.specs.Step.{stepped as stepped_chip, counters_stepped}
 use Rattle.chip.proofs.EditingLaws.{other_record, started_none, reset_none, none_kept}
 use Rattle.registers.specs.declared.address.Register.{Register}
 use Rattle.registers.specs.declared.address.Register.TheVariants.{Pixel, Sprite, Palette, Video, Ivr, Converter, Channel as ChannelAt, Dcsr, Status, Empty}
@@ -35,7 +35,7 @@ use Rattle.page.proofs.HoldsAt.{holds_at}
 use Rattle.page.proofs.UndoLaws.{served_register}
 use Rattle.runs.specs.World.{World, places_of}
 use Rattle.runs.specs.Call.{Call, bc, write, undo, start, Reply, Typed, answer_to, served_world}
-use Rattle.runs.specs.Sort.{sort_of, editor_in, onEdit}
+use Rattle.runs.specs.Sort.{sort_of, editor_in, on_edit}
 use Rattle.runs.specs.Run.{Made, Makes, Run, ended, on, Each}
 use Rattle.runs.specs.Trace.{Handed, lent_on, handed_to, LentTo, handed_by, handed_over, HandsOn, Snapshot, snapshots_by, snapshots_over, Trace}
 use Rattle.runs.proofs.Calls.{by_answer, fixed, written, taken}
@@ -90,7 +90,7 @@ undo_of_lem w own = undid
 undo_of_lem w another = others-undid
 
 edit_of : (ed : Editor) {w : World} {c : Call} → View w c → Edit ed w c
-unfolding steppedChip counters_stepped
+unfolding stepped_chip counters_stepped
 edit_of ed (feeds b l) = left {c = bc b} (record { none = refl; undo_record = l.undo_record ed; snapshots = λ n ss. refl })
 edit_of ed {w} (writes f a b e) = write_of w a b (which ed f)
 edit_of ed {w} (undoes f e) = undo_of_lem w (which ed f)
@@ -256,7 +256,7 @@ start-knows {ed} {w} {o = o} {h = h} k s =
     record {
       widths = rw (fixed k).world_is (call-widths w (start o) tt s.widths);
       bytes = s.bytes;
-      tells = rw (fixed k).world_is (none_kept ed (startedChip w.chip o).editing h.places (started_none ed w.chip o));
+      tells = rw (fixed k).world_is (none_kept ed (started_chip w.chip o).editing h.places (started_none ed w.chip o));
       each = tt;
     }
 
@@ -287,7 +287,7 @@ other_edit ed w v h ss ts false e lent f = f lent
 
 call-knows :
     {ed : Editor} {w v : World} {c : Call} {r : Reply} (h : Handed) (ss : List Snapshot) → Edit ed w c → Makes w c r v → Typed c →
-    onEdit (λ f. LentTo (same ed f) w ed h) (Unit {0}) c → Knows ed w.chip h ss →
+    on_edit (λ f. LentTo (same ed f) w ed h) (Unit {0}) c → Knows ed w.chip h ss →
     Knows ed v.chip (handed_by ed (record { before = w; asks = c; reply = r; after = v }) h) (snapshots_by ed (sort_of c) w r.answer ss)
 call-knows {ed} {w} {v} h ss (wrote a b) k t lent s =
     own_edit ed w v h ss _ (same ed ed) (same_self ed) lent (λ q. write-knows ss k t q) s

@@ -16,7 +16,7 @@ use Rattle.chip.specs.Ports.{selected, data_written, gate_written}
 use Rattle.chip.specs.Interrupts.{acknowledged}
 use Rattle.chip.specs.Mute.{mute_set}
 use Rattle.chip.specs.State.{with_editing}
-use Rattle.chip.specs.Step.{stepped as steppedChip, idle_report}
+use Rattle.chip.specs.Step.{stepped as stepped_chip, idle_report}
 use Rattle.lists.specs.declared.Area.{Area}
 use Rattle.chip.specs.Editors.{undo_of, editing_with, with_lists}
 use Rattle.chip.proofs.ChannelLaws.{aside_self, acknowledge_leaves, mute_leaves}
@@ -57,7 +57,7 @@ newest_of w ed = newest w.chip ed (places_of w.lent ed)
 pub record Lines (w : World) (c : Call) (a : Accesses) : Type 0 where
   pub sorts : sort_of c ≡ sort.steps_line a
   pub tells : (outcome w c).told ≡ report (served (answer_to w c) (sound_report w.lent.ram a w.chip.sound) idle_report)
-  pub next : served_world w c ≡ with_chip w (steppedChip w.lent.ram w.chip)
+  pub next : served_world w c ≡ with_chip w (stepped_chip w.lent.ram w.chip)
 
 pub data View (w : World) : Call → Type 0 where
   feeds : (b : ℕ) → Leaves w (served_world w (bc b)) → View w (bc b)
@@ -164,9 +164,9 @@ pub line_view : (w : World) (c : Call) → LineView w c
 line_view w c = line_of (view w c)
 
 -- what holds of every call but a line step follows from what else holds of it
-pub on_line : (w : World) (P : Accesses → Type 0) (Q R : Type 0) (c : Call) → (Q → R) → sort.onLine P Q c → sort.onLine P R c
-on_line w P Q R c f x = go c (line_view w c) x
+pub on_line_lem : (w : World) (P : Accesses → Type 0) (Q R : Type 0) (c : Call) → (Q → R) → sort.on_line P Q c → sort.on_line P R c
+on_line_lem w P Q R c f x = go c (line_view w c) x
   where
-    go : (c : Call) → LineView w c → sort.onLine P Q c → sort.onLine P R c
+    go : (c : Call) → LineView w c → sort.on_line P Q c → sort.on_line P R c
     go c (one a l) x = rw l.sorts (rw l.sorts at x)
     go c (other e) x = rw e (f (rw e at x))

@@ -50,8 +50,8 @@ line_in (starts o) = []
 line_in (lends l) = []
 line_in plain = []
 
-abbrev pub onLine {ℓ} : {A : Type ℓ} → (Accesses → A) → A → Call → A
-onLine f other c = found f other (line_in (sort_of c))
+abbrev pub on_line {ℓ} : {A : Type ℓ} → (Accesses → A) → A → Call → A
+on_line f other c = found f other (line_in (sort_of c))
 
 -- a buffer that is lent
 abbrev pub lent_in : Sort → List Loan
@@ -63,8 +63,8 @@ lent_in (starts o) = []
 lent_in (lends l) = l ∷ []
 lent_in plain = []
 
-abbrev pub onLend {ℓ} : {A : Type ℓ} → (Loan → A) → A → Call → A
-onLend f other c = found f other (lent_in (sort_of c))
+abbrev pub on_lend {ℓ} : {A : Type ℓ} → (Loan → A) → A → Call → A
+on_lend f other c = found f other (lent_in (sort_of c))
 
 -- the editor of a page write or an undo, which change the store and that editor's places
 abbrev pub editor_in : Sort → List Editor
@@ -76,8 +76,8 @@ editor_in (starts o) = []
 editor_in (lends l) = []
 editor_in plain = []
 
-abbrev pub onEdit {ℓ} : {A : Type ℓ} → (Editor → A) → A → Call → A
-onEdit f other c = found f other (editor_in (sort_of c))
+abbrev pub on_edit {ℓ} : {A : Type ℓ} → (Editor → A) → A → Call → A
+on_edit f other c = found f other (editor_in (sort_of c))
 
 -- the bytes of a list that is placed
 abbrev pub list_in : Call → List (List ℕ)
@@ -97,5 +97,5 @@ list_in (remove handle) = []
 list_in (mute n on) = []
 list_in (lend l) = []
 
-abbrev pub onPlace {ℓ} : {A : Type ℓ} → (List ℕ → A) → A → Call → A
-onPlace f other c = found f other (list_in c)
+abbrev pub on_place {ℓ} : {A : Type ℓ} → (List ℕ → A) → A → Call → A
+on_place f other c = found f other (list_in c)

@@ -17,7 +17,7 @@ use Rattle.contents.specs.Shown.{shows_dcsr}
 use Rattle.contents.specs.Widths.{Bytes}
 use Rattle.page.specs.UndoRecord.{is_kept}
 use Rattle.runs.specs.World.{World, places_of}
-use Rattle.runs.specs.Sort.{Sort, feeds, writes, undoes, steps_line, starts, lends, plain, sort_of, onEdit}
+use Rattle.runs.specs.Sort.{Sort, feeds, writes, undoes, steps_line, starts, lends, plain, sort_of, on_edit}
 use Rattle.runs.specs.Run.{Made}
 use Rattle.runs.specs.Reached.{Reached}
 
@@ -43,7 +43,7 @@ LentTo false w ed h = w.lent.store ≡ h.store
 
 -- what a call hands on
 abbrev pub handed_by : Editor → Made → Handed → Handed
-handed_by ed e h = onEdit (λ f. handed_to (same ed f) e.after ed h) h e.asks
+handed_by ed e h = on_edit (λ f. handed_to (same ed f) e.after ed h) h e.asks
 
 abbrev pub handed_over : Editor → List Made → Handed → Handed
 handed_over ed [] h = h
@@ -52,7 +52,7 @@ handed_over ed (e ∷ es) h = handed_over ed es (handed_by ed e h)
 -- each page write and each undo of a run is lent what the one before it left, the first of them these
 abbrev pub HandsOn : Editor → List Made → Handed → Type 0
 HandsOn ed [] h = Unit {0}
-HandsOn ed (e ∷ es) h = onEdit (λ f. LentTo (same ed f) e.before ed h) (Unit {0}) e.asks × HandsOn ed es (handed_by ed e h)
+HandsOn ed (e ∷ es) h = on_edit (λ f. LentTo (same ed f) e.before ed h) (Unit {0}) e.asks × HandsOn ed es (handed_by ed e h)
 
 -- ---- the writes that this editor's undo can still take back
 

@@ -2,7 +2,7 @@
 use Rattle.std.specs.Prelude.{◌≡◌, Bool, List, [], ◌∷◌, ℕ, zero, suc, ◌+◌, ◌-◌, ◌*◌, eqb, leb, ltb, length, get_or, take, drop}
 use Rattle.common.specs.Choice.{if, both}
 use Rattle.common.specs.Lists.{begins}
-use Rattle.common.specs.Answers.{done, nothingThere, noTrailer, notMet, badRecord, served}
+use Rattle.common.specs.Answers.{done, nothing_there, no_trailer, not_met, bad_record, served}
 use Rattle.take.specs.Bytes.{number_of}
 use Rattle.take.specs.Record.{unpacked, record_in, first_bad}
 use Rattle.take.specs.File.{letters}
@@ -36,16 +36,16 @@ records_of file = records_from (count_of file) (drop (offset_of file) file)
 
 -- no trailer, then a trailer that is not met
 abbrev pub trailer_answer : List ℕ → ℕ
-trailer_answer file = if (has_trailer file) (if (meets file) done notMet) noTrailer
+trailer_answer file = if (has_trailer file) (if (meets file) done not_met) no_trailer
 
 -- then a bad record
 unfoldable pub open_answer : List ℕ → ℕ
-open_answer file = served (trailer_answer file) (if (eqb (first_bad (records_of file)) 0) done badRecord) (trailer_answer file)
+open_answer file = served (trailer_answer file) (if (eqb (first_bad (records_of file)) 0) done bad_record) (trailer_answer file)
 
 -- opening a file: with a bad record its number from 1, else 0; count and offset where it is served, else 0
 pub record Opening (file : List ℕ) (answer bad count offset : ℕ) : Type 0 where
   pub answered : answer ≡ open_answer file
-  pub bad_number : bad ≡ if (eqb (open_answer file) badRecord) (first_bad (records_of file)) 0
+  pub bad_number : bad ≡ if (eqb (open_answer file) bad_record) (first_bad (records_of file)) 0
   pub counted : count ≡ served (open_answer file) (count_of file) 0
   pub placed : offset ≡ served (open_answer file) (offset_of file) 0
 
@@ -65,7 +65,7 @@ pub record Opens (file comment : List ℕ) (rs : List Record) : Type 0 where
 -- is bad is not asked
 unfoldable pub record_answer : List ℕ → ℕ → ℕ
 record_answer file number =
-    served (trailer_answer file) (if (both (leb 1 number) (leb number (count_of file))) done nothingThere) (trailer_answer file)
+    served (trailer_answer file) (if (both (leb 1 number) (leb number (count_of file))) done nothing_there) (trailer_answer file)
 
 -- where it is refused, the record that is all 0, which has no kind
 abbrev pub no_record : Record

@@ -2,7 +2,7 @@
 use Rattle.std.specs.Prelude.{◌≡◌, Bool, List, map, ℕ, ◌^◌, eqb, ltb, leb, length}
 use Rattle.std.proofs.lemmas.List.Edits.{sets}
 use Rattle.common.specs.Choice.{if, both}
-use Rattle.common.specs.Answers.{done, badRecord, noRoom, served}
+use Rattle.common.specs.Answers.{done, bad_record, no_room, served}
 use Rattle.take.specs.Record.{unpacked, first_bad}
 use Rattle.take.specs.File.{file_of}
 use Rattle.take.specs.declared.Record.{Record}
@@ -16,8 +16,8 @@ room_for comment rs room =
 unfoldable pub write_answer : List ℕ → List Record → ℕ → ℕ
 write_answer comment rs room =
     if (eqb (first_bad rs) 0)
-    (if (room_for comment rs room) done noRoom)
-    badRecord
+    (if (room_for comment rs room) done no_room)
+    bad_record
 
 -- writing a comment and records, lent as numbers of 64 bits: bytes beyond the file stay, and all of them where it is refused
 pub record Writing (comment numbers before after : List ℕ) (answer size bad : ℕ) : Type 0 where
