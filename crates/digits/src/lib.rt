@@ -6,6 +6,7 @@ ghost use Rattle.std.specs.Prelude.{◌≡◌, ◌%◌, ◌≤◌, length};
 ghost use Rattle.digits.specs.Digits.{glyph, decimal};
 
 // The character of a number's last hexadecimal digit.
+#[tactic(auto, unfolding(crate::specs::Digits::glyph))]
 pub fn character(n: u16) -> u8
     ensures { result ≡ glyph (n % 16) }
 {
@@ -17,6 +18,7 @@ pub fn character(n: u16) -> u8
 }
 
 // How many digits a number has in decimal, four at most.
+#[tactic(auto, using(crate::proofs::Digits::one, crate::proofs::Digits::two, crate::proofs::Digits::three, crate::proofs::Digits::four))]
 pub fn count(n: u16) -> usize
     ensures { (result ≡ length (decimal n)) × (result ≤ 4) }
 {
