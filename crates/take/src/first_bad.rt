@@ -59,6 +59,7 @@ fn value_fits(kind: u8, value: u8) -> bool
 }
 
 // Whether a record is bad after one with this line number.
+#[tactic(auto, unfolding(crate::specs::Record::bad))]
 fn is_bad(before: u32, entry: Record) -> bool
     ensures { result ≡ bad before entry }
 {
@@ -79,6 +80,7 @@ fn is_bad(before: u32, entry: Record) -> bool
 }
 
 // The number of the first bad record of some that are lent as numbers, or 0.
+#[tactic(auto, using(crate::proofs::FirstBad::searched_none))]
 pub fn of_numbers(numbers: &[u64]) -> usize
     ensures { result ≡ first_bad (map unpacked numbers.now) }
 {

@@ -35,6 +35,7 @@ pub fn pack(entry: Record) -> u64
 }
 
 // The record in a number of 64 bits.
+#[tactic(auto, unfolding(crate::specs::Record::unpacked))]
 pub fn unpack(number: u64) -> Record
     ensures { result ≡ unpacked number }
 {
@@ -159,6 +160,7 @@ pub fn record_at(file: &[u8], number: usize) -> RecordRead
 }
 
 // The record in the 8 bytes from a place on.
+#[tactic(auto, unfolding(crate::specs::Open::record_from))]
 pub fn record_from(file: &[u8], at: usize) -> Record
     ensures { result ≡ record_from file.now at }
 {

@@ -14,6 +14,7 @@ pub struct Ends {
     pub offset: usize,
 }
 
+#[tactic(auto, using(crate::proofs::Trailers::short))]
 fn has_trailer(file: &[u8]) -> bool
     ensures { result ≡ has_trailer file.now }
 {

@@ -9,6 +9,7 @@ use crate::bytes;
 use common::answer::{BAD_RECORD, DONE, NO_ROOM};
 
 // Whether a file with an offset and a count that fit their 4 bytes has the room.
+#[tactic(auto, unfolding(crate::specs::Parts::fitting))]
 fn fits(offset: usize, count: usize, room: usize) -> bool
     ensures { result ≡ fitting offset count room }
 {
@@ -22,6 +23,7 @@ fn fits(offset: usize, count: usize, room: usize) -> bool
 }
 
 // The answer, by the number of the first bad record, the offset, the count and the room.
+#[tactic(auto, unfolding(crate::specs::Parts::measured_answer))]
 pub fn answer(bad: usize, offset: usize, count: usize, room: usize) -> u8
     ensures { result ≡ measured_answer bad offset count room }
 {
