@@ -59,6 +59,7 @@ pub struct Counted {
 }
 
 // Whether a data write to this register number is kept.
+#[tactic(auto, unfolding(crate::specs::Registers::has_register))]
 pub fn has_register(number: u8) -> bool
     ensures { result ≡ has_register number }
 {
@@ -76,6 +77,7 @@ pub fn has_register(number: u8) -> bool
 
 impl Registers {
     // The registers after a data write to this number; the bits beyond a register's width are dropped.
+    #[tactic(auto, unfolding(crate::specs::Registers::written))]
     pub fn written(self, number: u8, byte: u8) -> Registers
         ensures { result ≡ written self number byte }
     {
@@ -116,6 +118,7 @@ impl Registers {
 
 impl Counters {
     // Whether PRI names this line; an adjust line is never named.
+    #[tactic(auto, unfolding(crate::specs::Line::raster_due))]
     fn raster_due(self, v: Video) -> bool
         ensures { result ≡ raster_due v self }
     {
@@ -130,6 +133,7 @@ impl Counters {
     }
 
     // Whether the split line names this line; an adjust line with RC of 8 or more is never named.
+    #[tactic(auto, unfolding(crate::specs::Line::split_due))]
     fn split_due(self, v: Video) -> bool
         ensures { result ≡ split_due v self }
     {
@@ -147,6 +151,7 @@ impl Counters {
     }
 
     // The split compare: the split address is captured where it is due.
+    #[tactic(auto, unfolding(crate::specs::Line::captured))]
     fn captured(self, v: Video) -> Counters
         ensures { result ≡ captured v self }
     {
@@ -160,6 +165,7 @@ impl Counters {
     }
 
     // Whether this line is the frame's last.
+    #[tactic(auto, unfolding(crate::specs::Line::frame_ends))]
     fn frame_ends(self, r: Registers) -> bool
         ensures { result ≡ frame_ends r self }
     {
@@ -176,6 +182,7 @@ impl Counters {
     }
 
     // The frame's first line.
+    #[tactic(auto, unfolding(crate::specs::Line::frame_start))]
     fn frame_start(self, r: Registers) -> Counters
         ensures { result ≡ frame_start r self }
     {
@@ -190,6 +197,7 @@ impl Counters {
     }
 
     // Where the next line stands, within the frame.
+    #[tactic(auto, unfolding(crate::specs::Line::position_after, crate::specs::Line::frame_ends))]
     fn position_after(self, r: Registers) -> Position
         requires { frame_ends r self ≡ false }
         ensures { result ≡ position_after r self }
@@ -216,6 +224,7 @@ impl Counters {
     }
 
     // The next line's screen address, within the frame.
+    #[tactic(auto, unfolding(crate::specs::Line::address_after))]
     fn address_after(self, r: Registers, sscr: u8) -> u16
         ensures { result ≡ address_after r sscr self }
     {
@@ -229,6 +238,7 @@ impl Counters {
     }
 
     // The counters of the next line.
+    #[tactic(auto, unfolding(crate::specs::Line::next_line))]
     fn next_line(self, r: Registers, sscr: u8) -> Counters
         ensures { result ≡ next_line r sscr self }
     {
@@ -247,6 +257,7 @@ impl Counters {
     }
 
     // One line: raster compare, split compare, counters.
+    #[tactic(auto, unfolding(crate::specs::Line::line_of))]
     pub fn line(self, r: Registers, v: Video) -> Counted
         ensures { result ≡ line_of r v self }
     {
