@@ -35,6 +35,7 @@ fn begin(stage: u8, byte: u8) -> u8
 }
 
 // The stage after one more byte.
+#[tactic(auto, unfolding(crate::specs::Machine::next_stage))]
 fn next_stage(stage: u8, byte: u8) -> u8
     ensures { result ≡ next_stage stage byte }
 {
@@ -52,6 +53,7 @@ fn next_stage(stage: u8, byte: u8) -> u8
 
 impl Lock {
     // The lock after reset: no byte has come.
+    #[tactic(auto, using(crate::proofs::Steps::fresh))]
     pub fn new() -> Lock
         ensures { Fresh result }
     {
