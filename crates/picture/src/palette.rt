@@ -3,6 +3,7 @@ ghost use Rattle.std.specs.Prelude.{◌≡◌, get_or};
 ghost use Rattle.picture.specs.Palette.{kept_byte_of, grey_of};
 
 // The bits that are kept of a byte written at a place of the palette: all of a low byte, the low 4 of a high one.
+#[tactic(auto, unfolding(crate::specs::Palette::kept_byte_of))]
 pub fn kept_byte(place: usize, byte: u8) -> u8
     ensures { result ≡ kept_byte_of place byte }
 {
@@ -13,6 +14,7 @@ pub fn kept_byte(place: usize, byte: u8) -> u8
 }
 
 // What the palette has at a place, by the bits that are kept; past its last byte 0.
+#[tactic(auto, unfolding(crate::specs::Palette::kept_byte_of))]
 pub fn byte_of(palette: [u8; 64], place: usize) -> u8
     ensures { result ≡ kept_byte_of place (get_or palette place 0) }
 {
@@ -23,6 +25,7 @@ pub fn byte_of(palette: [u8; 64], place: usize) -> u8
 }
 
 // The grey of an entry, from its two bytes.
+#[tactic(auto, unfolding(crate::specs::Palette::grey_of))]
 pub fn grey(low: u8, high: u8) -> u8
     ensures { result ≡ grey_of low high }
 {

@@ -24,6 +24,7 @@ fn raw_of(z: i16, modulus: u16) -> u16
 }
 
 // The coordinate with these bits: negative from `limit` on.
+#[tactic(auto, unfolding(crate::specs::Sprites::coordinate))]
 fn coordinate(raw: u16, modulus: u16, limit: u16) -> i16
     requires { (raw < modulus) × (modulus ≤ 1024) }
     ensures { result ≡ coordinate modulus limit raw }
@@ -56,6 +57,7 @@ fn high_byte(z: i16, modulus: u16) -> u8
 
 impl Sprite {
     // The sprite after a write to one of its registers, by its place: 0 to 4. Others change nothing.
+    #[tactic(auto, unfolding(crate::specs::Sprites::written))]
     pub fn written(self, place: u8, byte: u8) -> Sprite
         ensures { result ≡ written self place byte }
     {
@@ -92,6 +94,7 @@ impl Sprite {
     }
 
     // What a read of the sprite's register at this place shows: 0 to 3, the coordinates. Others are not readable and show 0.
+    #[tactic(auto, unfolding(crate::specs::Sprites::shown))]
     pub fn shown(self, place: u8) -> u8
         ensures { result ≡ shown self place }
     {
@@ -104,6 +107,7 @@ impl Sprite {
         }
     }
     // The contents of the sprite's register at this place, 0 to 4: the bits that it keeps. Others have none, which is 0.
+    #[tactic(auto, unfolding(crate::specs::Sprites::sprite_contents))]
     pub fn contents(self, place: u8) -> u8
         ensures { result ≡ sprite_contents self place }
     {
