@@ -193,6 +193,7 @@ fn frame_line(r: Registers, c: Counters) -> u16
 }
 
 // Draws the current line into 640 bytes, each a palette entry. A refused call leaves them as they were.
+#[tactic(auto, using(crate::proofs::Parts::kept), unfolding(crate::specs::Drawing::draw_answer))]
 pub fn draw(chip: Chip, ram: &[u8], store: &[u8], line: &mut [u8]) -> u8
     ensures { Draws chip ram.now store.now line.old line.new result }
 {
