@@ -1,0 +1,7 @@
+-- Drawn, then stepped by the answer of drawing.
+use Rattle.std.proofs.Common.{rules}
+use Rattle.line.proofs.Step.{shows}
+use Rattle.line.proofs.line.Goals as goal
+
+pub returns : goal.returns
+returns c = shows c.draw-answer.ensures (search rules)
