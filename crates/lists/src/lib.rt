@@ -40,6 +40,7 @@ pub struct Placed {
 }
 
 // Where a place starts.
+#[tactic(auto, unfolding(crate::specs::Room::start_of))]
 fn start_of(place: u32) -> u32
     ensures { (result ≡ start_of place) × (result ≤ 262142) }
 {
@@ -47,6 +48,7 @@ fn start_of(place: u32) -> u32
 }
 
 // Where it ends.
+#[tactic(auto, unfolding(crate::specs::Room::end_of))]
 fn end_of(place: u32) -> u32
     ensures { (result ≡ end_of place) × (result ≤ 65536) }
 {
@@ -54,6 +56,7 @@ fn end_of(place: u32) -> u32
 }
 
 // The place of so many bytes from an address on.
+#[tactic(auto, unfolding(crate::specs::Room::place_of))]
 fn place_of(address: u32, bytes: u32) -> u32
     requires { (address + bytes ≤ 65536) × (2 ≤ bytes) }
     ensures { result ≡ place_of address bytes }
@@ -139,6 +142,7 @@ fn lowest(used: u64, places: &[u32], bytes: u32, from: u32) -> u32
 }
 
 // Whether two bounds are as an area's have to be.
+#[tactic(auto, unfolding(crate::specs::Area::proper))]
 fn proper(from: u32, upto: u32) -> bool
     ensures { result ≡ proper from upto }
 {
@@ -155,6 +159,7 @@ fn proper(from: u32, upto: u32) -> bool
 }
 
 // Whether an area stands.
+#[tactic(auto, unfolding(crate::specs::Area::standing))]
 fn standing(area: Area) -> bool
     ensures { result ≡ standing area }
 {
@@ -162,6 +167,7 @@ fn standing(area: Area) -> bool
 }
 
 // Whether a list of so many bytes can be asked for.
+#[tactic(auto, unfolding(crate::specs::Place::askable))]
 fn askable(area: Area, bytes: usize) -> bool
     ensures { result ≡ askable area bytes }
 {
@@ -178,6 +184,7 @@ fn askable(area: Area, bytes: usize) -> bool
 }
 
 // The lowest free handle, or 64: the lowest bit that is 0.
+#[tactic(auto, using(crate::proofs::Bits::free_of))]
 fn free_handle(used: u64) -> usize
     ensures { FreeOrNone used result }
 {
@@ -274,6 +281,7 @@ pub fn place(area: Area, places: &mut [u32; 64], ram: &mut [u8], list: &[u8]) ->
 }
 
 // Whether a handle has a list.
+#[tactic(auto, unfolding(crate::specs::Remove::taken))]
 fn taken(area: Area, handle: u32) -> bool
     ensures { result ≡ taken area handle }
 {
@@ -284,6 +292,7 @@ fn taken(area: Area, handle: u32) -> bool
 }
 
 // Removes a list, unless some channel plays it.
+#[tactic(auto, unfolding(crate::specs::Remove::remove_answer))]
 pub fn remove(area: Area, handle: u32, playing: bool) -> Changed
     ensures { Removes area handle playing result }
 {
@@ -312,6 +321,7 @@ pub fn remove(area: Area, handle: u32, playing: bool) -> Changed
 }
 
 // Gives the area, by its bounds.
+#[tactic(auto, unfolding(crate::specs::Area::area_answer))]
 pub fn give(area: Area, from: u32, upto: u32) -> Changed
     ensures { Gives area from upto result }
 {
@@ -338,6 +348,7 @@ pub fn give(area: Area, from: u32, upto: u32) -> Changed
 }
 
 // Whether an address from low up to high lies in a list.
+#[tactic(auto, unfolding(crate::specs::Search::meets))]
 fn meets(start: u32, end: u32, low: u32, high: u32) -> bool
     ensures { result ≡ meets start end low high }
 {
