@@ -55,6 +55,7 @@ fn mended_control(word: u16) -> u16
 }
 
 // A word mended.
+#[tactic(auto, unfolding(crate::specs::Rule::mended))]
 pub fn mended_word(word: u16) -> u16
     ensures { result ≡ mended word }
 {
@@ -203,6 +204,7 @@ pub fn mend(words: &mut [u16], used: usize, report: &mut [u64]) -> Mended
 }
 
 // A change of a report by its number from 0; all 0 where the report has no room for so many.
+#[tactic(auto, unfolding(crate::specs::Rule::change_at))]
 pub fn change_at(report: &[u64], number: usize) -> Change
     ensures { result ≡ change_at report.now number }
 {
