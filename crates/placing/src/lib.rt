@@ -67,6 +67,7 @@ fn used_by(channel: Channel, place: u32) -> bool
 }
 
 // Whether one of the three has.
+#[tactic(auto, unfolding(crate::specs::InUse::in_use_of))]
 fn in_use(sound: Sound, place: u32) -> bool
     ensures { result ≡ in_use_of sound place }
 {
