@@ -119,6 +119,7 @@ pub struct SoundLine {
 }
 
 // The word at an address, low byte first.
+#[tactic(auto, unfolding(crate::specs::Channels::word_at))]
 pub fn word_at(ram: &[u8], address: u16) -> u16
     ensures { result ≡ word_at ram.now address }
 {
@@ -130,6 +131,7 @@ pub fn word_at(ram: &[u8], address: u16) -> u16
 
 impl Channel {
     // One more line of the pause, if there is one.
+    #[tactic(auto, unfolding(crate::specs::Channels::pause_counted))]
     fn pause_counted(self) -> Channel
         requires { self.enabled ≡ true }
         ensures { result ≡ pause_counted self }
@@ -148,6 +150,7 @@ impl Channel {
     }
 
     // The channel with its address past the word that it fetches.
+    #[tactic(auto, unfolding(crate::specs::Channels::fetched))]
     fn fetched(self) -> Channel
         ensures { result ≡ fetched self }
     {
