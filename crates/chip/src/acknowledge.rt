@@ -13,6 +13,7 @@ const RASTER: u8 = 6;
 const NOBODY: u8 = 8;
 
 // The source that is served: raster first, then channels 2, 1 and 0.
+#[tactic(auto, unfolding(crate::specs::Interrupts::source_of))]
 fn source_of(raster: bool, sound: Sound) -> u8
     ensures { result ≡ source_of raster sound }
 {
@@ -32,6 +33,7 @@ fn source_of(raster: bool, sound: Sound) -> u8
 }
 
 // The vector: the top five bits of IVR, and what tells the source.
+#[tactic(auto, unfolding(crate::specs::Interrupts::vector_of))]
 fn vector_of(ivr: u8, source: u8) -> u8
     requires { source < 8 }
     ensures { result ≡ vector_of ivr source }
@@ -40,6 +42,7 @@ fn vector_of(ivr: u8, source: u8) -> u8
 }
 
 // A channel that is served: its interrupt is cleared if IVR bit 0 is 0.
+#[tactic(auto, unfolding(crate::specs::Interrupts::sound_served))]
 fn sound_served(mut sound: Sound, ivr: u8, source: u8) -> Sound
     ensures { result ≡ sound_served sound ivr source }
 {

@@ -18,6 +18,7 @@ pub struct Moved {
 }
 
 // The report of a line that wasn't played: no cycles, each channel sat out.
+#[tactic(auto, unfolding(crate::specs::Step::idle_report))]
 fn idle_report() -> Report
     ensures { result ≡ idle_report }
 {
@@ -26,6 +27,7 @@ fn idle_report() -> Report
 }
 
 // The answer of a line step: RAM of another length is refused.
+#[tactic(auto, unfolding(crate::specs::Step::step_answer))]
 fn step_answer(ram: &[u8]) -> u8
     ensures { result ≡ step_answer ram.now }
 {

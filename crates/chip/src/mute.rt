@@ -6,6 +6,7 @@ use crate::{Answered, Chip};
 use common::answer::{DONE, NOTHING_THERE};
 
 // Sets or clears a channel's mute mark: its LOADs then leave the PSG. A number above 2 is no channel.
+#[tactic(auto, unfolding(crate::specs::Mute::mute_answer, crate::specs::Mute::mute_set))]
 pub fn mute(mut chip: Chip, channel: u16, on: bool) -> Answered
     ensures { Answers (mute_answer channel) (mute_set chip channel on) chip result }
 {

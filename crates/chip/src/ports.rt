@@ -7,6 +7,7 @@ use crate::{Answered, Chip, Gate};
 use common::answer::{DONE, NOTHING_THERE};
 
 // A byte written to BCxx: selects a 6845 register and feeds the lock.
+#[tactic(auto, unfolding(crate::specs::Ports::selected))]
 pub fn write_bc(mut chip: Chip, byte: u8) -> Answered
     ensures { Selects chip byte result }
 {
@@ -17,6 +18,7 @@ pub fn write_bc(mut chip: Chip, byte: u8) -> Answered
 }
 
 // A 6845 data write, to the register selected last.
+#[tactic(auto, unfolding(crate::specs::Ports::data_answer, crate::specs::Ports::data_written))]
 pub fn write_bd(mut chip: Chip, byte: u8) -> Answered
     ensures { Answers (data_answer chip) (data_written chip byte) chip result }
 {
@@ -33,6 +35,7 @@ pub fn write_bd(mut chip: Chip, byte: u8) -> Answered
 }
 
 // The gate array after a 7Fxx byte for the page, or else for the mode.
+#[tactic(auto, unfolding(crate::specs::Ports::gate_after))]
 fn gate_after(gate: Gate, page: bool, byte: u8) -> Gate
     ensures { result ≡ gate_after gate page byte }
 {
@@ -49,6 +52,7 @@ fn gate_after(gate: Gate, page: bool, byte: u8) -> Gate
 }
 
 // A byte written to 7Fxx.
+#[tactic(auto, unfolding(crate::specs::Ports::gate_answer, crate::specs::Ports::gate_written))]
 pub fn write_7f(mut chip: Chip, byte: u8) -> Answered
     ensures { Answers (gate_answer byte) (gate_written chip byte) chip result }
 {

@@ -62,6 +62,7 @@ fn reset_sound() -> Sound
 }
 
 // The chip after reset.
+#[tactic(auto, unfolding(crate::specs::Reset::reset_chip))]
 pub fn reset() -> Chip
     ensures { Reset result }
 {

@@ -37,6 +37,7 @@ pub fn with_undo(editing: Editing, editor: Editor, undo: Undo) -> Editing
 }
 
 // The host gives the table, which empties both records. Placed lists stay.
+#[tactic(auto, unfolding(crate::specs::Editors::started))]
 pub fn start(mut chip: Chip, owners: Owners) -> Answered
     ensures { Answers done (started chip owners) chip result }
 {
