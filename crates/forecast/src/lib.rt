@@ -25,6 +25,7 @@ pub struct Length {
 }
 
 // The lines of one pass of a word.
+#[tactic(auto, unfolding(crate::specs::Rule::lines_of))]
 fn lines_of(word: u16, prescale: u8) -> u64
     ensures { result ≡ lines_of prescale word }
 {
@@ -39,6 +40,7 @@ fn lines_of(word: u16, prescale: u8) -> u64
 }
 
 // The cycles of one pass of a word, if a LOAD meets this access.
+#[tactic(auto, unfolding(crate::specs::Rule::cycles_of))]
 fn cycles_of(word: u16, access: Access) -> u64
     ensures { result ≡ cycles_of access word }
 {
@@ -49,6 +51,7 @@ fn cycles_of(word: u16, access: Access) -> u64
 }
 
 // The open count after a word: that of the last REPEAT, 0 once a LOOP has come.
+#[tactic(auto, unfolding(crate::specs::Rule::open_count))]
 fn open_count(count: u16, word: u16) -> u16
     ensures { result ≡ open_count count word }
 {
@@ -70,6 +73,7 @@ struct Sums {
 
 impl Sums {
     // One more word, of this cost: a LOOP goes back over the words since the REPEAT, itself with them.
+    #[tactic(auto, unfolding(crate::specs::Pass::added))]
     fn added(self, word: u16, count: u16, cost: u64) -> Sums
         requires room { Room self }
         requires cost_bound { cost ≤ 2 ^ 20 }
