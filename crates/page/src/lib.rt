@@ -43,6 +43,7 @@ struct Change {
 }
 
 // The answer number of a page read, for a store of this length.
+#[tactic(auto, unfolding(crate::specs::Page::read_answer, crate::specs::Page::page_answer))]
 fn read_answer(chip: Chip, size: usize, address: u16) -> u8
     ensures { result ≡ read_answer chip size address }
 {
