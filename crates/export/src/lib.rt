@@ -14,6 +14,7 @@ use common::size::EXPORT;
 const REGISTERS: usize = 159;
 
 // The address of register number k, in rising order: sprites, palette, 6800h to 6805h, channels.
+#[tactic(auto, unfolding(crate::specs::Parts::address_of))]
 fn address_of(k: usize) -> u16
     requires { k < 159 }
     ensures { result ≡ address_of k }
