@@ -34,6 +34,7 @@ fn put_digits(out: &mut [u8], at: usize, bytes: &[u8], digits: usize) -> usize
 }
 
 // A line of an answer and so many digits.
+#[tactic(auto, using(crate::proofs::Putting::joined))]
 fn line(out: &mut [u8], at: usize, answer: u8, bytes: &[u8], digits: usize) -> usize
     requires { at + digits + 22 ≤ length out.old }
     ensures appends { Appends out.old at (digit_line answer bytes.now digits) out.new result }
@@ -57,6 +58,7 @@ pub fn exported(chip: Chip, out: &mut [u8], at: usize) -> usize
 }
 
 // The line of an order that shows the PSG's registers.
+#[tactic(auto, unfolding(crate::specs::Dump::psg_line))]
 pub fn psg(registers: [u8; 16], out: &mut [u8], at: usize) -> usize
     requires { at + 54 ≤ length out.old }
     ensures appends { Appends out.old at (psg_line registers) out.new result }

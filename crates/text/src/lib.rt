@@ -13,6 +13,7 @@ use sound::Did;
 use words::WordKind;
 
 // The bytes of a text.
+#[tactic(auto, using(crate::proofs::Putting::appends))]
 pub fn put(out: &mut [u8], at: usize, text: &[u8]) -> usize
     requires { at + length text.now ≤ length out.old }
     ensures { Appends out.old at text.now out.new result }
@@ -32,6 +33,7 @@ pub fn number(out: &mut [u8], at: usize, n: u64) -> usize
 }
 
 // A space and a number.
+#[tactic(auto, using(crate::proofs::Putting::joined))]
 pub fn spaced(out: &mut [u8], at: usize, n: u64) -> usize
     requires { at + 21 ≤ length out.old }
     ensures appends { Appends out.old at (spaced_numeral n) out.new result }
@@ -66,6 +68,7 @@ fn kind_name(out: &mut [u8], at: usize, kind: WordKind) -> usize
 }
 
 // What a channel did: a dash if it sat out, else the kind and the low 12 bits of the word that it executed.
+#[tactic(auto, using(crate::proofs::Putting::joined))]
 pub fn did(out: &mut [u8], at: usize, what: Did) -> usize
     requires { at + 29 ≤ length out.old }
     ensures appends { Appends out.old at (did_text what) out.new result }

@@ -1,4 +1,7 @@
 // The lines of output.
+
+#![tactic(auto, using(crate::proofs::Putting::joined))]
+
 ghost use Rattle.std.specs.Prelude.{◌+◌, ◌≤◌, length};
 ghost use Rattle.text.specs.Text.{Appends};
 ghost use Rattle.text.specs.Lines.{one_line, two_line, three_line, report_text, step_line, forecast_line, bad_line, short_line};
