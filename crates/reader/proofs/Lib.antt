@@ -1,3 +1,3 @@
--- Laws of the reader, and what its walks by hand name of the logic.
+-- Laws of the reader.
 pub mod Places
 pub mod HandedOut

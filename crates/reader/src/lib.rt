@@ -37,6 +37,7 @@ pub struct Handed<'a> {
 }
 
 // The place of a take's first record, or the end of a file that does not open.
+#[tactic(auto, unfolding(crate::specs::Reader::first_place))]
 fn first_at(file: &[u8]) -> usize
     ensures { result ≡ first_place file.now }
 {
@@ -48,6 +49,7 @@ fn first_at(file: &[u8]) -> usize
 }
 
 // What stands at a place, and the next place: the work of the reader.
+#[tactic(auto, unfolding(crate::specs::Reader::found_at, crate::specs::Reader::after_at))]
 fn advance_at(file: &[u8], at: usize) -> Advanced
     ensures { result ≡ advanced_at file.now at }
 {
