@@ -36,6 +36,7 @@ fn put_pens(pens: &mut [u8], at: usize, table: &[u8], left: u8, right: u8, width
 }
 
 // Where the first of a character's two bytes lies, by the screen address and the line in the row.
+#[tactic(auto, unfolding(picture::specs::Screen::byte_address))]
 fn character_byte(address: u16, row: u8, c: usize) -> usize
     requires { c < 40 }
     ensures { (result ≡ byte_address (character_at address c) row 0) × (result < 1000000) }
