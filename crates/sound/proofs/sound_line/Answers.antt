@@ -1,7 +1,7 @@
 -- With channel n's turn taken, whatever that does to the PSG, one more channel has been worked through.
-use Rattle.std.proofs.Common.{◌≡◌, ℕ, ◌+◌, List, true, false, length, refl, sym, ◌∙◌, rules, arith}
-use Rattle.sound.specs.Line.{heard, channel_of, entry_of}
-use Rattle.sound.proofs.Worked.{loads, muted-heard, load-heard, line_of, worked, one_more, room, all-worked}
+use Rattle.std.proofs.Common.{◌≡◌, true, refl, sym, ◌∙◌, rules, arith}
+use Rattle.sound.specs.Line.{channel_of}
+use Rattle.sound.proofs.Worked.{loads, muted-heard, load-heard, one_more, room, all-worked}
 use Rattle.sound.proofs.sound_line.Goals as goal
 
 pub overflow_add-cycles : goal.overflow_add-cycles
