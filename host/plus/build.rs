@@ -1,5 +1,5 @@
 //! Links the proved library: libplus.a of the folder that PLUS_LIB_DIR names (by
-//! its whole path), or else the one that `rt staticlib plus` writes in this
+//! its whole path), or else the one that the script `plus` builds in this
 //! repository.
 
 use std::env;
@@ -20,7 +20,7 @@ fn main() {
     println!("cargo:rerun-if-changed={}", library.display());
     assert!(
         library.exists(),
-        "{} is not there: `rt staticlib plus` writes it, or PLUS_LIB_DIR names its folder",
+        "{} is not there: the script `plus` builds it, or PLUS_LIB_DIR names its folder",
         library.display()
     );
     println!("cargo:rustc-link-search=native={}", folder.display());
