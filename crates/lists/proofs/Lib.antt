@@ -2,6 +2,7 @@
 pub mod Bits
 pub mod Room
 pub mod Bounds
+pub mod Calls
 pub mod Uses
 pub mod Placing
 pub mod Only
