@@ -37,6 +37,7 @@ pub enum Register {
 }
 
 // At 6000h + offset: from +4 on stand magnification and its mirrors.
+#[tactic(auto, unfolding(crate::specs::Address::sprite_at))]
 fn sprite_at(offset: u16) -> Register
     ensures { result ≡ sprite_at offset }
 {
@@ -49,6 +50,7 @@ fn sprite_at(offset: u16) -> Register
 }
 
 // At 6800h + offset.
+#[tactic(auto, unfolding(crate::specs::Address::video_at))]
 fn video_at(offset: u16) -> Register
     ensures { result ≡ video_at offset }
 {
@@ -66,6 +68,7 @@ fn video_at(offset: u16) -> Register
 }
 
 // At 6C00h + offset.
+#[tactic(auto, unfolding(crate::specs::Address::channel_at))]
 fn channel_at(offset: u16) -> Register
     ensures { result ≡ channel_at offset }
 {
@@ -86,6 +89,7 @@ fn channel_at(offset: u16) -> Register
 }
 
 // Below 6000h: a pixel, or nothing.
+#[tactic(auto, unfolding(crate::specs::Address::register_at))]
 fn pixel_or_empty(address: u16) -> Register
     requires { address < 0x6000 }
     ensures { result ≡ register_at address }
@@ -100,6 +104,7 @@ fn pixel_or_empty(address: u16) -> Register
 }
 
 // What stands at an address.
+#[tactic(auto, unfolding(crate::specs::Address::register_at))]
 pub fn register_at(address: u16) -> Register
     ensures { result ≡ register_at address }
 {

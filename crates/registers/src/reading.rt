@@ -30,6 +30,7 @@ fn channel_flag(table: Table, editor: Editor, n: usize, on: bool, weight: u8) ->
 }
 
 // What DCSR reads as to an editor.
+#[tactic(auto, unfolding(crate::specs::Registers::dcsr))]
 fn dcsr(chip: Chip, editor: Editor) -> u8
     ensures { result ≡ dcsr chip editor }
 {
