@@ -1,3 +1,4 @@
 -- Laws of the registers for the crates above.
 pub mod AddressLaws
 pub mod ChannelWrites
+pub mod Store
