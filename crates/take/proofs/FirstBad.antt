@@ -1,4 +1,5 @@
--- The first bad record of some, by one more of them.
+-- The rules of a record, and the first bad record of some by one more of them.
+use borrow.Author.Tests.{le-leb, lt-leb}
 use native.Mathlib.Nat.{add-zero, sub-zero}
 use native.Mathlib.Numerals.{add-one}
 use native.Mathlib.Omega.{arith}
@@ -8,9 +9,34 @@ use mathlib.Core.List.{List, [], ◌∷◌, map}
 use Prim.Native.Nat.{ℕ, suc, ◌+◌, ◌-◌, ◌*◌, ◌<◌, ◌≤◌}
 use lib.ListN.{length, get_or, drop}
 use lib.Seq.{drop-cons, drop-drop}
-use Rattle.take.specs.Record.{unpacked, record_in, bad, first_bad, first_bad_after}
+use Rattle.take.specs.Record.{unpacked, record_in, known_kind, has_address, absent, value_fits, bad, first_bad, first_bad_after}
 use Rattle.take.specs.Open.{records_from}
 use Rattle.take.specs.declared.Record.{Record}
+
+-- the rules one after another
+module _ (before : ℕ) (r : Record) where
+  pub kind-bad : known_kind r.kind ≡ false → true ≡ bad before r
+  unfolding bad
+  kind-bad e = simp e
+
+  module _ (k : known_kind r.kind ≡ true) where
+    pub address-bad : absent (has_address r.kind) r.address ≡ false → true ≡ bad before r
+    unfolding bad
+    address-bad e = simp (k, e)
+
+    module _ (a : absent (has_address r.kind) r.address ≡ true) where
+      pub value-bad : value_fits r.kind r.value ≡ false → true ≡ bad before r
+      unfolding bad
+      value-bad e = simp (k, a, e)
+
+      module _ (v : value_fits r.kind r.value ≡ true) where
+        pub line-bad : r.line < before → true ≡ bad before r
+        unfolding bad
+        line-bad h = simp (k, a, v, lt-leb before r.line h)
+
+        pub not_bad : before ≤ r.line → false ≡ bad before r
+        unfolding bad
+        not_bad h = simp (k, a, v, le-leb before r.line h)
 
 -- the first bad record of all is that of those that are left, after so many, the last with this line number
 pub record Searched (all : List Record) (count before : ℕ) (left : List Record) : Type 0 where
