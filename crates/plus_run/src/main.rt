@@ -34,6 +34,7 @@ fn flush(out: &[u8], at: usize)
 }
 
 // A machine with room for a line.
+#[tactic(auto, unfolding(crate::specs::Blocks::roomy))]
 fn with_room(mut m: Machine, out: &[u8]) -> Machine
     requires { (m.at ≤ length out.now) × (1024 ≤ length out.now) }
     ensures { Roomy m out.now result }
