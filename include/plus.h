@@ -1,4 +1,4 @@
-/* The Plus chip core, for x86-64 Linux. Link libplus.a, which `rt staticlib plus` builds, or what `plus install` puts down.
+/* The Plus chip core, for x86-64 Linux. Link libplus.a, which the script `plus` builds, or what `plus install` puts down.
  *
  * The chip's state goes in by value and comes back in the answer; the library keeps nothing between calls. Every call but
  * plus_built, plus_reset, plus_grey, plus_change, plus_take_pack and plus_take_unpack, which can't be refused, has an answer
