@@ -1,4 +1,4 @@
-// The C interface: every call under a C name, with structs by value and slices as a pointer and a length.
+// The C interface: every call under a C name, with structs by value and slices as a pointer and a length. `plus_c` exports them.
 
 #![tactic(auto)]
 
@@ -71,8 +71,7 @@ pub struct PlusBuilt {
 }
 
 // The version, and the bytes of the state.
-#[unsafe(no_mangle)]
-pub extern "C" fn plus_built() -> PlusBuilt
+pub fn plus_built() -> PlusBuilt
     ensures { Built result }
 {
     PlusBuilt {
@@ -82,62 +81,49 @@ pub extern "C" fn plus_built() -> PlusBuilt
 }
 
 // The chip after reset.
-#[unsafe(no_mangle)]
-pub extern "C" fn plus_reset() -> Chip
+pub fn plus_reset() -> Chip
     ensures { Reset result }
 {
     chip::start::reset()
 }
 
 // A byte written to BCxx.
-#[unsafe(no_mangle)]
-pub extern "C" fn plus_write_bc(chip: Chip, byte: u8) -> Answered
+pub fn plus_write_bc(chip: Chip, byte: u8) -> Answered
     ensures { Selects chip byte result }
 {
     chip::ports::write_bc(chip, byte)
 }
 
 // A 6845 data write.
-#[unsafe(no_mangle)]
-pub extern "C" fn plus_write_bd(chip: Chip, byte: u8) -> Answered
+pub fn plus_write_bd(chip: Chip, byte: u8) -> Answered
     ensures { Answers (data_answer chip) (data_written chip byte) chip result }
 {
     chip::ports::write_bd(chip, byte)
 }
 
 // A byte written to 7Fxx.
-#[unsafe(no_mangle)]
-pub extern "C" fn plus_write_7f(chip: Chip, byte: u8) -> Answered
+pub fn plus_write_7f(chip: Chip, byte: u8) -> Answered
     ensures { Answers (gate_answer byte) (gate_written chip byte) chip result }
 {
     chip::ports::write_7f(chip, byte)
 }
 
 // The host gives the table of owners; both undo records are empty then.
-#[unsafe(no_mangle)]
-pub extern "C" fn plus_start(chip: Chip, owners: Owners) -> Answered
+pub fn plus_start(chip: Chip, owners: Owners) -> Answered
     ensures { StartTold chip owners result }
 {
     chip::table::start(chip, owners)
 }
 
 // A byte that an editor reads from the page.
-#[unsafe(no_mangle)]
-pub extern "C" fn plus_page_read(
-    chip: Chip,
-    editor: u8,
-    store: &[u8],
-    address: u16,
-    bus: u8,
-) -> ByteRead
+pub fn plus_page_read(chip: Chip, editor: u8, store: &[u8], address: u16, bus: u8) -> ByteRead
     ensures { Reads chip (editor_by editor) store.now address bus result }
 {
     page::page_read(chip, editors::editor_by(editor), store, address, bus)
 }
 
 // A byte that an editor writes to the page, and the write kept for its undo.
-#[unsafe(no_mangle)]
-pub extern "C" fn plus_page_write(
+pub fn plus_page_write(
     chip: Chip,
     editor: u8,
     store: &mut [u8],
@@ -158,66 +144,49 @@ pub extern "C" fn plus_page_write(
 }
 
 // The newest write of an editor's that is kept, taken back.
-#[unsafe(no_mangle)]
-pub extern "C" fn plus_undo(
-    chip: Chip,
-    editor: u8,
-    store: &mut [u8],
-    places: &[u32; 256],
-) -> Answered
+pub fn plus_undo(chip: Chip, editor: u8, store: &mut [u8], places: &[u32; 256]) -> Answered
     ensures { UndoTold chip (editor_by editor) store.old places.now store.new result }
 {
     page::undo(chip, editors::editor_by(editor), store, places)
 }
 
 // Gives the area of RAM for lists, by its bounds.
-#[unsafe(no_mangle)]
-pub extern "C" fn plus_area(chip: Chip, from: u32, upto: u32) -> Answered
+pub fn plus_area(chip: Chip, from: u32, upto: u32) -> Answered
     ensures { GivesArea chip from upto result }
 {
     placing::area(chip, from, upto)
 }
 
 // Mutes a channel, whose LOADs then leave the PSG, or has it heard again.
-#[unsafe(no_mangle)]
-pub extern "C" fn plus_mute(chip: Chip, channel: u16, on: bool) -> Answered
+pub fn plus_mute(chip: Chip, channel: u16, on: bool) -> Answered
     ensures { MuteTold chip channel on result }
 {
     chip::mute::mute(chip, channel, on)
 }
 
 // Places a list in the area, with the places of the lists lent, and copies it into RAM.
-#[unsafe(no_mangle)]
-pub extern "C" fn plus_place(
-    chip: Chip,
-    places: &mut [u32; 64],
-    ram: &mut [u8],
-    list: &[u8],
-) -> PlacedList
+pub fn plus_place(chip: Chip, places: &mut [u32; 64], ram: &mut [u8], list: &[u8]) -> PlacedList
     ensures { PlaceTold chip places.old ram.old list.now places.new ram.new result }
 {
     placing::place(chip, places, ram, list)
 }
 
 // Removes a placed list, by its handle.
-#[unsafe(no_mangle)]
-pub extern "C" fn plus_remove(chip: Chip, places: &[u32; 64], handle: u32) -> Answered
+pub fn plus_remove(chip: Chip, places: &[u32; 64], handle: u32) -> Answered
     ensures { RemoveTold chip places.now handle result }
 {
     placing::remove(chip, places, handle)
 }
 
 // The contents of the registers outside the pixels, into 477 bytes.
-#[unsafe(no_mangle)]
-pub extern "C" fn plus_export(chip: Chip, out: &mut [u8]) -> u8
+pub fn plus_export(chip: Chip, out: &mut [u8]) -> u8
     ensures { Exports chip out.old out.new result }
 {
     export::export(chip, out)
 }
 
 // Interrupt acknowledge.
-#[unsafe(no_mangle)]
-pub extern "C" fn plus_acknowledge(chip: Chip) -> Acknowledged
+pub fn plus_acknowledge(chip: Chip) -> Acknowledged
     ensures { Acknowledges chip result }
 {
     chip::acknowledge::acknowledge(chip)
@@ -284,8 +253,7 @@ fn accesses(first: u8, second: u8, third: u8) -> Accesses
 
 // Draws the current line into 640 bytes, and steps the chip to the next. The numbers say what the processor does at the 8255 for each
 // channel.
-#[unsafe(no_mangle)]
-pub extern "C" fn plus_line(
+pub fn plus_line(
     chip: Chip,
     ram: &[u8],
     store: &[u8],
@@ -310,8 +278,7 @@ pub extern "C" fn plus_line(
 }
 
 // The lines of the list at a start address, the least and the most cycles, and where the list stands.
-#[unsafe(no_mangle)]
-pub extern "C" fn plus_forecast(ram: &[u8], start: u16, prescale: u8) -> PlusLength
+pub fn plus_forecast(ram: &[u8], start: u16, prescale: u8) -> PlusLength
     ensures { LengthTold ram.now start prescale result }
 {
     let told = forecast::forecast(ram, start, prescale);
@@ -337,88 +304,77 @@ pub extern "C" fn plus_forecast(ram: &[u8], start: u16, prescale: u8) -> PlusLen
 }
 
 // The grey of a palette entry, from its two bytes.
-#[unsafe(no_mangle)]
-pub extern "C" fn plus_grey(low: u8, high: u8) -> u8
+pub fn plus_grey(low: u8, high: u8) -> u8
     ensures { result ≡ grey_of low high }
 {
     picture::palette::grey(low, high)
 }
 
 // Prints words as text.
-#[unsafe(no_mangle)]
-pub extern "C" fn plus_print(words: &[u16], text: &mut [u8]) -> Printed
+pub fn plus_print(words: &[u16], text: &mut [u8]) -> Printed
     ensures { PrintsWords words.now text.old text.new result.answer result.size }
 {
     listing::print(words, text)
 }
 
 // Reads such a text back.
-#[unsafe(no_mangle)]
-pub extern "C" fn plus_read(text: &[u8], words: &mut [u16]) -> ReadBack
+pub fn plus_read(text: &[u8], words: &mut [u16]) -> ReadBack
     ensures { ReadsText text.now words.old words.new result.answer result.count result.line }
 {
     listing::read(text, words)
 }
 
 // Mends the words of a buffer that are in use, where they stand, and reports every change.
-#[unsafe(no_mangle)]
-pub extern "C" fn plus_mend(words: &mut [u16], used: usize, report: &mut [u64]) -> Mended
+pub fn plus_mend(words: &mut [u16], used: usize, report: &mut [u64]) -> Mended
     ensures { MendTold words.old used report.old words.new report.new result }
 {
     mend::mend(words, used, report)
 }
 
 // A change of a report, by its number from 0.
-#[unsafe(no_mangle)]
-pub extern "C" fn plus_change(report: &[u64], number: usize) -> Change
+pub fn plus_change(report: &[u64], number: usize) -> Change
     ensures { result ≡ change_at report.now number }
 {
     mend::change_at(report, number)
 }
 
 // A record of a take as a number of 64 bits.
-#[unsafe(no_mangle)]
-pub extern "C" fn plus_take_pack(entry: Record) -> u64
+pub fn plus_take_pack(entry: Record) -> u64
     ensures { result ≡ packed entry }
 {
     take::pack(entry)
 }
 
 // The record in such a number.
-#[unsafe(no_mangle)]
-pub extern "C" fn plus_take_unpack(number: u64) -> Record
+pub fn plus_take_unpack(number: u64) -> Record
     ensures { result ≡ unpacked number }
 {
     take::unpack(number)
 }
 
 // Writes a take, its records lent as numbers.
-#[unsafe(no_mangle)]
-pub extern "C" fn plus_take_write(comment: &[u8], records: &[u64], output: &mut [u8]) -> Written
+pub fn plus_take_write(comment: &[u8], records: &[u64], output: &mut [u8]) -> Written
     ensures { WritesTake comment.now records.now output.old output.new result.answer result.size result.bad }
 {
     take::write(comment, records, output)
 }
 
 // Opens a take: its record count, and the offset of its first record.
-#[unsafe(no_mangle)]
-pub extern "C" fn plus_take_open(file: &[u8]) -> Opened
+pub fn plus_take_open(file: &[u8]) -> Opened
     ensures { Opening file.now result.answer result.bad result.count result.offset }
 {
     take::open(file)
 }
 
 // The record of a take with this number, from 1.
-#[unsafe(no_mangle)]
-pub extern "C" fn plus_take_record(file: &[u8], number: usize) -> RecordRead
+pub fn plus_take_record(file: &[u8], number: usize) -> RecordRead
     ensures { ReadsRecord file.now number result.answer result.entry }
 {
     take::record_at(file, number)
 }
 
 // Plays a take from reset, whose starts all give these owners.
-#[unsafe(no_mangle)]
-pub extern "C" fn plus_replay(
+pub fn plus_replay(
     ram: &[u8],
     store: &mut [u8],
     song: &mut [u32; 256],
