@@ -4,3 +4,4 @@ pub mod Lists
 pub mod Storing
 pub mod Answers
 pub mod Sizes
+pub mod Refusals

@@ -24,10 +24,7 @@ pub fn bit_at(x: u32, n: usize) -> bool
 pub fn byte_at(bytes: &[u8], at: usize) -> u8
     ensures { result ≡ get_or bytes.now at 0 }
 {
-    if bytes.len() <= at {
-        return 0;
-    }
-    bytes[at]
+    bytes.get(at).copied().unwrap_or(0)
 }
 
 // Stores bytes in a buffer from a place on and answers the place after them. Where not all have room none is stored, and the
@@ -41,10 +38,7 @@ pub fn put(buffer: &mut [u8], at: usize, bytes: &[u8]) -> usize
     if buffer.len() - at < bytes.len() {
         return at;
     }
-    let mut i = 0;
-    while i < bytes.len() {
-        buffer[at + i] = bytes[i];
-        i += 1;
-    }
-    at + i
+    let end = at + bytes.len();
+    buffer[at..end].copy_from_slice(bytes);
+    end
 }
