@@ -18,10 +18,7 @@ pub fn kept_byte(place: usize, byte: u8) -> u8
 pub fn byte_of(palette: [u8; 64], place: usize) -> u8
     ensures { result ≡ kept_byte_of place (get_or palette place 0) }
 {
-    if 64 <= place {
-        return 0;
-    }
-    kept_byte(place, palette[place])
+    kept_byte(place, common::byte_at(&palette, place))
 }
 
 // The grey of an entry, from its two bytes.

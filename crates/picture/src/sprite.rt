@@ -1,58 +1,93 @@
 // A sprite's registers: the position, which is signed, and the magnification.
-ghost use Rattle.std.specs.Prelude.{◌≡◌, ◌<◌, ◌≤◌};
+ghost use Rattle.std.specs.Prelude.{◌≡◌, ◌+◌, ◌*◌, ◌/◌, ◌%◌, ◌<◌, ◌≤◌};
 ghost use Rattle.picture.specs.Sprites.{raw_of, coordinate, written, low_shown, high_shown, shown, sprite_contents};
 
 // X from -256 to 767 and Y from -256 to 255 where written through the page; magnification has 4 bits: 3-2 for X, 1-0 for Y.
 #[repr(C)]
-#[derive(Clone, Copy)]
+#[derive(Clone, Copy, PartialEq, Eq)]
 pub struct Sprite {
     pub x: i16,
     pub y: i16,
     pub magnification: u8,
 }
 
-// The bits of a coordinate, as a number below `modulus`, which is 512 or 1024.
-fn raw_of(z: i16, modulus: u16) -> u16
-    requires { (0 < modulus) × (modulus ≤ 1024) }
-    ensures { (result ≡ raw_of modulus z) × (result < modulus) }
-{
-    if z < 0 {
-        let n = (-1 - z) as u16;
-        return modulus - 1 - n % modulus;
-    }
-    z as u16 % modulus
+// An axis: a coordinate's bits are a number below `modulus`, of whose high byte all values count, and negative from `limit` on.
+#[derive(Clone, Copy)]
+struct Axis {
+    modulus: u16,
+    limit: u16,
+    ghost bytes: { (0 < modulus) × (modulus ≤ 1024) × (modulus % 256 ≡ 0) },
 }
 
-// The coordinate with these bits: negative from `limit` on.
-#[tactic(auto, unfolding(crate::specs::Sprites::coordinate))]
-fn coordinate(raw: u16, modulus: u16, limit: u16) -> i16
-    requires { (raw < modulus) × (modulus ≤ 1024) }
-    ensures { result ≡ coordinate modulus limit raw }
-{
-    let n = raw as i16;
-    if limit <= raw {
-        return n - modulus as i16;
-    }
-    n
-}
+// X has 10 bits, and 768 to 1023 mean -256 to -1;
+const X: Axis = Axis {
+    modulus: 1024,
+    limit: 768,
+};
 
-// The low 8 bits of a coordinate.
-fn low_byte(z: i16, modulus: u16) -> u8
-    requires { (0 < modulus) × (modulus ≤ 1024) }
-    ensures { result ≡ low_shown modulus z }
-{
-    (raw_of(z, modulus) % 256) as u8
-}
+// Y is 9 bits of two's complement.
+const Y: Axis = Axis {
+    modulus: 512,
+    limit: 256,
+};
 
-// The bits of a coordinate above its low 8, all set if it is negative.
-fn high_byte(z: i16, modulus: u16) -> u8
-    requires { (0 < modulus) × (modulus ≤ 1024) }
-    ensures { result ≡ high_shown modulus z }
-{
-    if z < 0 {
-        return 255;
+impl Axis {
+    // The bits of a coordinate.
+    fn raw_of(self, z: i16) -> u16
+        ensures { (result ≡ raw_of self.modulus z) × (result < self.modulus) }
+    {
+        z.rem_euclid(self.modulus as i16) as u16
     }
-    (raw_of(z, modulus) / 256) as u8
+
+    // The coordinate with these bits.
+    #[tactic(auto, unfolding(crate::specs::Sprites::coordinate))]
+    fn coordinate(self, raw: u16) -> i16
+        requires { raw < self.modulus }
+        ensures { result ≡ coordinate self.modulus self.limit raw }
+    {
+        if self.limit <= raw {
+            return raw as i16 - self.modulus as i16;
+        }
+        raw as i16
+    }
+
+    // A coordinate with another low byte.
+    fn with_low(self, z: i16, byte: u8) -> i16
+        ensures { result ≡ coordinate self.modulus self.limit (raw_of self.modulus z / 256 * 256 + byte) }
+    {
+        self.coordinate(self.raw_of(z) / 256 * 256 + byte as u16)
+    }
+
+    // A coordinate with another high byte, of which the bits that the axis has are kept.
+    fn with_high(self, z: i16, byte: u8) -> i16
+        ensures { result ≡ coordinate self.modulus self.limit (byte % (self.modulus / 256) * 256 + raw_of self.modulus z % 256) }
+    {
+        self.coordinate(byte as u16 % (self.modulus / 256) * 256 + self.raw_of(z) % 256)
+    }
+
+    // The low 8 bits of a coordinate.
+    fn low_byte(self, z: i16) -> u8
+        ensures { result ≡ low_shown self.modulus z }
+    {
+        (self.raw_of(z) % 256) as u8
+    }
+
+    // The bits above them.
+    fn high_bits(self, z: i16) -> u8
+        ensures { result ≡ raw_of self.modulus z / 256 }
+    {
+        (self.raw_of(z) / 256) as u8
+    }
+
+    // The same as they are shown: all set if the coordinate is negative.
+    fn high_byte(self, z: i16) -> u8
+        ensures { result ≡ high_shown self.modulus z }
+    {
+        if z < 0 {
+            return 255;
+        }
+        self.high_bits(z)
+    }
 }
 
 impl Sprite {
@@ -61,33 +96,26 @@ impl Sprite {
     pub fn written(self, place: u8, byte: u8) -> Sprite
         ensures { result ≡ written self place byte }
     {
-        let x = raw_of(self.x, 1024);
-        let y = raw_of(self.y, 512);
         match place {
             0 => Sprite {
-                x: coordinate(x / 256 * 256 + byte as u16, 1024, 768),
-                y: self.y,
-                magnification: self.magnification,
+                x: X.with_low(self.x, byte),
+                ..self
             },
             1 => Sprite {
-                x: coordinate(byte as u16 % 4 * 256 + x % 256, 1024, 768),
-                y: self.y,
-                magnification: self.magnification,
+                x: X.with_high(self.x, byte),
+                ..self
             },
             2 => Sprite {
-                x: self.x,
-                y: coordinate(y / 256 * 256 + byte as u16, 512, 256),
-                magnification: self.magnification,
+                y: Y.with_low(self.y, byte),
+                ..self
             },
             3 => Sprite {
-                x: self.x,
-                y: coordinate(byte as u16 % 2 * 256 + y % 256, 512, 256),
-                magnification: self.magnification,
+                y: Y.with_high(self.y, byte),
+                ..self
             },
             4 => Sprite {
-                x: self.x,
-                y: self.y,
                 magnification: byte % 16,
+                ..self
             },
             _ => self,
         }
@@ -99,23 +127,24 @@ impl Sprite {
         ensures { result ≡ shown self place }
     {
         match place {
-            0 => low_byte(self.x, 1024),
-            1 => high_byte(self.x, 1024),
-            2 => low_byte(self.y, 512),
-            3 => high_byte(self.y, 512),
+            0 => X.low_byte(self.x),
+            1 => X.high_byte(self.x),
+            2 => Y.low_byte(self.y),
+            3 => Y.high_byte(self.y),
             _ => 0,
         }
     }
+
     // The contents of the sprite's register at this place, 0 to 4: the bits that it keeps. Others have none, which is 0.
     #[tactic(auto, unfolding(crate::specs::Sprites::sprite_contents))]
     pub fn contents(self, place: u8) -> u8
         ensures { result ≡ sprite_contents self place }
     {
         match place {
-            0 => (raw_of(self.x, 1024) % 256) as u8,
-            1 => (raw_of(self.x, 1024) / 256) as u8,
-            2 => (raw_of(self.y, 512) % 256) as u8,
-            3 => (raw_of(self.y, 512) / 256) as u8,
+            0 => X.low_byte(self.x),
+            1 => X.high_bits(self.x),
+            2 => Y.low_byte(self.y),
+            3 => Y.high_bits(self.y),
             4 => self.magnification % 16,
             _ => 0,
         }
