@@ -2,9 +2,9 @@
 
 #![tactic(auto)]
 
-ghost use Rattle.std.specs.Prelude.{◌≡◌, false};
+ghost use Rattle.std.specs.Prelude.{◌≡◌, ◌<◌, false};
 ghost use Rattle.crtc.specs.Registers.{has_register, written};
-ghost use Rattle.crtc.specs.Line.{raster_due, split_due, captured, frame_ends, position_after, address_after, frame_start, next_line, line_of};
+ghost use Rattle.crtc.specs.Line.{line_number, raster_due, split_due, captured, frame_ends, position_after, address_after, frame_start, next_line, line_of};
 
 // The registers that are kept. A data write stores no more bits than document 01 gives a register; the fields themselves hold any byte.
 #[repr(C)]
@@ -20,7 +20,7 @@ pub struct Registers {
 }
 
 // The counters of the current line: row VC, line in the row RC, whether it is an adjust line, its screen
-// address, and the split address that was captured, if one is held.
+// address, and the split address that was captured, if one is held. The flag `held` with `split` beside it stays: C sees this struct.
 #[repr(C)]
 #[derive(Clone, Copy)]
 pub struct Counters {
@@ -63,73 +63,44 @@ pub struct Counted {
 pub fn has_register(number: u8) -> bool
     ensures { result ≡ has_register number }
 {
-    match number {
-        1 => true,
-        4 => true,
-        5 => true,
-        6 => true,
-        9 => true,
-        12 => true,
-        13 => true,
-        _ => false,
-    }
+    matches!(number, 1 | 4 | 5 | 6 | 9 | 12 | 13)
 }
 
 impl Registers {
     // The registers after a data write to this number; the bits beyond a register's width are dropped.
     #[tactic(auto, unfolding(crate::specs::Registers::written))]
-    pub fn written(self, number: u8, byte: u8) -> Registers
+    pub fn written(mut self, number: u8, byte: u8) -> Registers
         ensures { result ≡ written self number byte }
     {
-        let mut r = self;
         match number {
-            1 => {
-                r.r1 = byte;
-                r
-            }
-            4 => {
-                r.r4 = byte % 128;
-                r
-            }
-            5 => {
-                r.r5 = byte % 32;
-                r
-            }
-            6 => {
-                r.r6 = byte % 128;
-                r
-            }
-            9 => {
-                r.r9 = byte % 32;
-                r
-            }
-            12 => {
-                r.r12 = byte % 64;
-                r
-            }
-            13 => {
-                r.r13 = byte;
-                r
-            }
-            _ => r,
+            1 => self.r1 = byte,
+            4 => self.r4 = byte % 128,
+            5 => self.r5 = byte % 32,
+            6 => self.r6 = byte % 128,
+            9 => self.r9 = byte % 32,
+            12 => self.r12 = byte % 64,
+            13 => self.r13 = byte,
+            _ => {}
         }
+        self
     }
 }
 
 impl Counters {
+    // The line's number as the two compares see it.
+    fn line_number(self, rows: u16) -> u16
+        requires { 0 < rows }
+        ensures { result ≡ line_number rows self }
+    {
+        self.vc as u16 % rows * 8 + self.rc as u16 % 8
+    }
+
     // Whether PRI names this line; an adjust line is never named.
     #[tactic(auto, unfolding(crate::specs::Line::raster_due))]
     fn raster_due(self, v: Video) -> bool
         ensures { result ≡ raster_due v self }
     {
-        if v.pri == 0 {
-            return false;
-        }
-        let number = self.vc as u16 % 64 * 8 + self.rc as u16 % 8;
-        if v.pri as u16 != number {
-            return false;
-        }
-        !self.adjust
+        v.pri != 0 && !self.adjust && v.pri as u16 == self.line_number(64)
     }
 
     // Whether the split line names this line; an adjust line with RC of 8 or more is never named.
@@ -137,17 +108,9 @@ impl Counters {
     fn split_due(self, v: Video) -> bool
         ensures { result ≡ split_due v self }
     {
-        if v.split_line == 0 {
-            return false;
-        }
-        let number = self.vc as u16 % 32 * 8 + self.rc as u16 % 8;
-        if v.split_line as u16 != number {
-            return false;
-        }
-        if !self.adjust {
-            return true;
-        }
-        self.rc < 8
+        v.split_line != 0
+            && v.split_line as u16 == self.line_number(32)
+            && (!self.adjust || self.rc < 8)
     }
 
     // The split compare: the split address is captured where it is due.
@@ -155,13 +118,14 @@ impl Counters {
     fn captured(self, v: Video) -> Counters
         ensures { result ≡ captured v self }
     {
-        let mut c = self;
         if !self.split_due(v) {
-            return c;
+            return self;
         }
-        c.held = true;
-        c.split = v.split_high as u16 * 256 + v.split_low as u16;
-        c
+        Counters {
+            held: true,
+            split: v.split_high as u16 * 256 + v.split_low as u16,
+            ..self
+        }
     }
 
     // Whether this line is the frame's last.
@@ -172,13 +136,7 @@ impl Counters {
         if self.adjust {
             return r.r5 as u16 <= self.rc as u16 + 1;
         }
-        if self.rc != r.r9 {
-            return false;
-        }
-        if self.vc != r.r4 {
-            return false;
-        }
-        r.r5 == 0
+        self.rc == r.r9 && self.vc == r.r4 && r.r5 == 0
     }
 
     // The frame's first line.
@@ -191,8 +149,7 @@ impl Counters {
             rc: 0,
             adjust: false,
             address: r.r12 as u16 * 256 + r.r13 as u16,
-            held: self.held,
-            split: self.split,
+            ..self
         }
     }
 
@@ -245,11 +202,11 @@ impl Counters {
         if self.frame_ends(r) {
             return self.frame_start(r);
         }
-        let next = self.position_after(r);
+        let Position { vc, rc, adjust } = self.position_after(r);
         Counters {
-            vc: next.vc,
-            rc: next.rc,
-            adjust: next.adjust,
+            vc,
+            rc,
+            adjust,
             address: self.address_after(r, sscr),
             held: false,
             split: 0,

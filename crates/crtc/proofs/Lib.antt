@@ -1,2 +1,0 @@
--- What other crates may cite of this one.
-pub mod Laws
