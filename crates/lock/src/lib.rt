@@ -10,7 +10,7 @@ const KEY: [u8; 14] = *b"\xff\x77\xb3\x51\xa8\xd4\x62\x39\x9c\x46\x2b\x15\x8a\xc
 
 // The lock: whether the chip is unlocked, and how much of the sequence the last bytes are. Stage 0: no byte has come, or
 // the last is a zero after a zero or after none; 1: it isn't zero; 2: a zero after one that isn't; from 3 to 16: that,
-// and one more byte of the sequence for each stage.
+// and one more byte of the sequence for each stage. The stages stay numbers: C sees this struct.
 #[repr(C)]
 #[derive(Clone, Copy)]
 pub struct Lock {
@@ -22,16 +22,11 @@ pub struct Lock {
 fn begin(stage: u8, byte: u8) -> u8
     ensures { result ≡ begins stage byte }
 {
-    if byte != 0 {
-        return 1;
+    match (stage, byte) {
+        (0 | 2, 0) => 0,
+        (_, 0) => 2,
+        _ => 1,
     }
-    if stage == 0 {
-        return 0;
-    }
-    if stage == 2 {
-        return 0;
-    }
-    2
 }
 
 // The stage after one more byte.
@@ -39,16 +34,10 @@ fn begin(stage: u8, byte: u8) -> u8
 fn next_stage(stage: u8, byte: u8) -> u8
     ensures { result ≡ next_stage stage byte }
 {
-    if stage < 2 {
-        return begin(stage, byte);
+    match stage {
+        2..=15 if byte == KEY[(stage - 2) as usize] => stage + 1,
+        _ => begin(stage, byte),
     }
-    if 16 <= stage {
-        return begin(stage, byte);
-    }
-    if byte == KEY[(stage - 2) as usize] {
-        return stage + 1;
-    }
-    begin(stage, byte)
 }
 
 impl Lock {
@@ -67,25 +56,14 @@ impl Lock {
     pub fn feed(self, byte: u8) -> Lock
         ensures { Fed self byte result }
     {
-        let stage = self.stage;
-        let next = next_stage(stage, byte);
-        if stage == 16 {
-            return Lock {
-                unlocked: true,
-                stage: next,
-            };
-        }
-        if stage == 15 {
-            if byte != 0xcd {
-                return Lock {
-                    unlocked: false,
-                    stage: next,
-                };
-            }
-        }
+        let unlocked = match self.stage {
+            16 => true,
+            15 if byte != 0xcd => false,
+            _ => self.unlocked,
+        };
         Lock {
-            unlocked: self.unlocked,
-            stage: next,
+            unlocked,
+            stage: next_stage(self.stage, byte),
         }
     }
 }
