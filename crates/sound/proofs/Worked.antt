@@ -1,63 +1,32 @@
 -- Serves only the loop of `sound_line`: the line with the channels so far worked through, and that with all three it is
 -- the whole line.
-use mathlib.Core.Path.{◌≡◌, refl, ap, sym, ◌∙◌}
-use mathlib.Core.Bool.{Bool, true, false}
+use mathlib.Core.Path.{◌≡◌, refl, ap, ◌∙◌}
 use mathlib.Core.List.{List, [], ◌∷◌}
-use Prim.Native.Nat.{ℕ, zero, suc, ◌+◌, ◌*◌, ◌/◌, ◌%◌, ◌<◌, ◌≤◌}
+use Prim.Native.Nat.{ℕ, zero, suc, ◌+◌, ◌*◌, ◌<◌, ◌≤◌}
 use native.Mathlib.Omega.{arith}
 use native.Mathlib.Numerals.{add-one}
 use lib.ListN.{length, set}
-use Rattle.common.specs.Choice.{if}
-use Rattle.words.specs.Words.{is_load}
-use Rattle.words.specs.declared.WordKind.{WordKind}
-use Rattle.words.specs.declared.WordKind.TheVariants.{Load, Pause, Repeat, Control, Nothing}
 use Rattle.sound.specs.declared.Access.{Access}
 use Rattle.sound.specs.declared.Accesses.{Accesses}
 use Rattle.sound.specs.declared.Channel.{Channel}
 use Rattle.sound.specs.declared.Did.{Did}
-use Rattle.sound.specs.declared.Did.TheVariants.{SatOut, Executed}
+use Rattle.sound.specs.declared.Did.TheVariants.{SatOut}
 use Rattle.sound.specs.declared.Entry.{Entry}
 use Rattle.sound.specs.declared.Sound.{Sound}
 use Rattle.sound.specs.declared.SoundLine.{SoundLine}
 use Rattle.sound.specs.declared.Turn.{Turn}
 use Rattle.sound.specs.Channels.{turn_of}
-use Rattle.sound.specs.Line.{loaded, heard, own_cycles, access_of, channel_of, entry_of, sound_after, sound_report, sound_line}
+use Rattle.sound.specs.Line.{heard, own_cycles, access_of, channel_of, entry_of, sound_after, sound_report, sound_line}
 use Rattle.sound.proofs.Laws.{own-bound}
 use Rattle.sound.proofs.Muting.{mark-stays}
 
--- what a word does to the PSG, by whether it is a LOAD
-by_kind : (psg : List ℕ) (k : WordKind) (n : ℕ) →
-    if (is_load k) (set psg (n / 256 % 16) (n % 256)) psg ≡ loaded psg (Executed k n)
-by_kind psg Load n = refl
-by_kind psg Pause n = refl
-by_kind psg Repeat n = refl
-by_kind psg Control n = refl
-by_kind psg Nothing n = refl
-
-pub loads : (psg : List ℕ) (d : Did) (k : WordKind) (n : ℕ) (b : Bool) → d ≡ Executed k n → b ≡ is_load k →
-    if b (set psg (n / 256 % 16) (n % 256)) psg ≡ loaded psg d
-loads psg d k n b e f = rw (e, f) (by_kind psg k n)
-
-pub sat-out : (psg : List ℕ) (d : Did) → d ≡ SatOut → psg ≡ loaded psg d
-sat-out psg d e = rw e
-
--- what is heard of a channel: of one that loads nothing, and of a muted one, nothing; of another one its LOAD
-pub nothing-heard : (c : Channel) (psg : List ℕ) (d : Did) → psg ≡ loaded psg d → psg ≡ heard c psg d
-nothing-heard c psg d e = go c.muted
-  where
-    go : (m : Bool) → psg ≡ if m psg (loaded psg d)
-    go true = refl
-    go false = e
-
+-- a turn leaves the mute mark, so what is heard of it is asked after it as well
 module _ (ram : List ℕ) (c : Channel) (psg : List ℕ) (turn : Turn) (is : turn ≡ turn_of ram c) where
   mark : turn.channel.muted ≡ c.muted
   mark = rw is (mark-stays ram c)
 
-  pub muted-heard : turn.channel.muted ≡ true → psg ≡ heard c psg turn.did
-  muted-heard m = simp (sym mark ∙ m)
-
-  pub load-heard : turn.channel.muted ≡ false → heard c psg turn.did ≡ loaded psg turn.did
-  load-heard m = simp (sym mark ∙ m)
+  still-heard : heard turn.channel psg turn.did ≡ heard c psg turn.did
+  still-heard = rw mark
 
 -- the loop's variables as one line
 abbrev pub line_of : Sound → List Entry → ℕ → SoundLine
@@ -86,10 +55,12 @@ module _ (ram : List ℕ) (acs : Accesses) (s₀ : Sound) where
   pub one_more :
       (n cycles own : ℕ) (s : Sound) (es : List Entry) (a : Access) (c : Channel) (turn : Turn) (psg : List ℕ) →
       line_of s es cycles ≡ worked ram acs s₀ n → c ≡ channel_of s.channels n → turn ≡ turn_of ram c → a ≡ access_of acs n →
-      own ≡ own_cycles a turn.did → psg ≡ heard c s.psg turn.did →
+      own ≡ own_cycles a turn.did → psg ≡ heard turn.channel s.psg turn.did →
       line_of (record { channels = set s.channels n turn.channel; psg = psg }) (set es n (entry_of turn.did)) (cycles + own)
       ≡ worked ram acs s₀ (n + 1)
-  one_more n cycles own s es a c turn psg e d f h g p = rw (add-one, ← e, p, g, h, f, d)
+  one_more n cycles own s es a c turn psg e d f h g p =
+      let q : psg ≡ heard c s.psg turn.did = p ∙ still-heard ram c s.psg turn f in
+      rw (add-one, ← e, q, g, h, f, d)
 
   -- each channel adds at most 11 cycles
   cycles_so_far : (n : ℕ) → (worked ram acs s₀ n).report.cycles ≤ 1 + 11 * n

@@ -2,9 +2,9 @@
 
 #![tactic(auto)]
 
-ghost use Rattle.std.specs.Prelude.{true, ◌≡◌};
+ghost use Rattle.std.specs.Prelude.{◌≡◌};
 ghost use Rattle.sound.specs.Channels.{word_at, pause_counted, fetched, looped, paused, repeated, controlled, executed, turn_of};
-ghost use Rattle.sound.specs.Line.{access_by, access_of, disturbance, own_cycles, sound_line};
+ghost use Rattle.sound.specs.Line.{access_by, access_of, heard, disturbance, own_cycles, sound_line};
 
 use words::WordKind;
 
@@ -26,14 +26,14 @@ pub struct Channel {
 
 // What the processor does at the 8255 while a channel has its turn: it is off it, it is on it, or its access is itself a write to a
 // PSG register.
-#[derive(Clone, Copy)]
+#[derive(Clone, Copy, PartialEq, Eq)]
 pub enum Access {
     Off,
     On,
     PsgWrite,
 }
 
-// That of each channel in order, for a line.
+// That of each channel in order, for a line. No array, since the definition `access_of` and the crates above name the fields.
 #[derive(Clone, Copy)]
 pub struct Accesses {
     pub first: Access,
@@ -54,15 +54,24 @@ impl Accesses {
     }
 }
 
-// An access by its number: 0 off the 8255, 1 on it, any other a PSG register write.
+impl From<u8> for Access {
+    ghost from_gives = { λ number access. access ≡ access_by number };
+
+    // By its number: 0 off the 8255, 1 on it, any other a PSG register write.
+    fn from(number: u8) -> Access {
+        match number {
+            0 => Access::Off,
+            1 => Access::On,
+            _ => Access::PsgWrite,
+        }
+    }
+}
+
+// An access by its number.
 pub fn access_by(number: u8) -> Access
     ensures { result ≡ access_by number }
 {
-    match number {
-        0 => Access::Off,
-        1 => Access::On,
-        _ => Access::PsgWrite,
-    }
+    Access::from(number)
 }
 
 // The cycles that it takes from a LOAD.
@@ -77,7 +86,7 @@ pub fn disturbance(access: Access) -> u8
 }
 
 // What a channel did on a line: sat out, or executed a word of this kind with these low 12 bits.
-#[derive(Clone, Copy)]
+#[derive(Clone, Copy, PartialEq, Eq)]
 pub enum Did {
     SatOut,
     Executed(WordKind, u16),
@@ -130,23 +139,25 @@ pub fn word_at(ram: &[u8], address: u16) -> u16
 }
 
 impl Channel {
-    // One more line of the pause, if there is one.
+    // One more line of the pause, if there is one and the channel is enabled.
     #[tactic(auto, unfolding(crate::specs::Channels::pause_counted))]
     fn pause_counted(self) -> Channel
-        requires { self.enabled ≡ true }
         ensures { result ≡ pause_counted self }
     {
-        let mut c = self;
-        if c.pause == 0 {
-            return c;
+        if !self.enabled || self.pause == 0 {
+            return self;
         }
-        if c.count < c.prescale {
-            c.count += 1;
-            return c;
+        if self.count < self.prescale {
+            return Channel {
+                count: self.count + 1,
+                ..self
+            };
         }
-        c.count = 0;
-        c.pause -= 1;
-        c
+        Channel {
+            count: 0,
+            pause: self.pause - 1,
+            ..self
+        }
     }
 
     // The channel with its address past the word that it fetches.
@@ -154,58 +165,62 @@ impl Channel {
     fn fetched(self) -> Channel
         ensures { result ≡ fetched self }
     {
-        let mut c = self;
-        c.address = ((c.address as u32 + 2) % 65536) as u16;
-        c
+        Channel {
+            address: self.address.wrapping_add(2),
+            ..self
+        }
     }
 
     // LOOP, if its bit is set.
     fn looped(self, on: bool) -> Channel
         ensures { result ≡ looped on self }
     {
-        let mut c = self;
-        if !on {
-            return c;
+        if !on || self.counter == 0 {
+            return self;
         }
-        if c.counter == 0 {
-            return c;
+        Channel {
+            counter: self.counter - 1,
+            address: self.mark,
+            ..self
         }
-        c.counter -= 1;
-        c.address = c.mark;
-        c
     }
 
     // PAUSE, which does nothing with a count of 0.
     fn paused(self, low: u16) -> Channel
         ensures { result ≡ paused low self }
     {
-        let mut c = self;
         if low == 0 {
-            return c;
+            return self;
         }
-        c.pause = low;
-        c.count = 0;
-        c
+        Channel {
+            pause: low,
+            count: 0,
+            ..self
+        }
     }
 
     // REPEAT: the loop counter, and the mark at the next word.
     fn repeated(self, low: u16) -> Channel
         ensures { result ≡ repeated low self }
     {
-        let mut c = self;
-        c.counter = low;
-        c.mark = c.address;
-        c
+        Channel {
+            counter: low,
+            mark: self.address,
+            ..self
+        }
     }
 
     // A control word: LOOP, INT and STOP, each by its bit.
+    #[tactic(auto, unfolding(crate::specs::Channels::controlled))]
     fn controlled(self, low: u16) -> Channel
         ensures { result ≡ controlled low self }
     {
-        let mut c = self.looped(words::loop_bit(low));
-        c.interrupt = words::int_bit(low) | c.interrupt;
-        c.enabled = !words::stop_bit(low) & c.enabled;
-        c
+        let c = self.looped(words::loop_bit(low));
+        Channel {
+            interrupt: words::int_bit(low) || c.interrupt,
+            enabled: !words::stop_bit(low) && c.enabled,
+            ..c
+        }
     }
 
     // The channel after a word of this kind.
@@ -213,26 +228,20 @@ impl Channel {
         ensures { result ≡ executed kind low self }
     {
         match kind {
-            WordKind::Load => self,
+            WordKind::Load | WordKind::Nothing => self,
             WordKind::Pause => self.paused(low),
             WordKind::Repeat => self.repeated(low),
             WordKind::Control => self.controlled(low),
-            WordKind::Nothing => self,
         }
     }
 
     // One line of this channel: counting first, then, if it is active, one word.
+    #[tactic(auto, unfolding(crate::specs::Channels::turn_of, crate::specs::Channels::active))]
     pub fn line(self, ram: &[u8]) -> Turn
         ensures { result ≡ turn_of ram.now self }
     {
-        if !self.enabled {
-            return Turn {
-                channel: self,
-                did: Did::SatOut,
-            };
-        }
         let c = self.pause_counted();
-        if c.pause != 0 {
+        if !c.enabled || c.pause != 0 {
             return Turn {
                 channel: c,
                 did: Did::SatOut,
@@ -241,9 +250,8 @@ impl Channel {
         let word = word_at(ram, c.address);
         let kind = words::kind_of(word);
         let low = words::low_12(word);
-        let next = c.fetched().executed(kind, low);
         Turn {
-            channel: next,
+            channel: c.fetched().executed(kind, low),
             did: Did::Executed(kind, low),
         }
     }
@@ -254,46 +262,48 @@ impl Entry {
     pub fn own_cycles(self, access: Access) -> u8
         ensures { result ≡ own_cycles access self.did }
     {
-        let did = self.did;
-        match did {
+        match self.did {
             Did::SatOut => 0,
-            Did::Executed(kind, _) => {
-                if words::is_load(kind) {
-                    return 9 + disturbance(access);
-                }
-                2
-            }
+            Did::Executed(WordKind::Load, _) => 9 + disturbance(access),
+            Did::Executed(..) => 2,
         }
     }
 }
 
-// One line of all three channels, worked through in order; a LOAD sets its PSG register, if the channel is not muted.
-pub fn sound_line(mut sound: Sound, ram: &[u8], accesses: Accesses) -> SoundLine
+impl Turn {
+    // What the PSG has of it: a LOAD sets its register, if the channel is not muted.
+    fn heard(self, psg: &mut [u8; 16])
+        ensures { psg.new ≡ heard self.channel psg.old self.did }
+    {
+        match self.did {
+            Did::Executed(WordKind::Load, low) if !self.channel.muted => {
+                psg[(low / 256 % 16) as usize] = (low % 256) as u8;
+            }
+            _ => {}
+        }
+    }
+}
+
+// One line of all three channels, worked through in order.
+pub fn sound_line(sound: Sound, ram: &[u8], accesses: Accesses) -> SoundLine
     ensures { result ≡ sound_line ram.now accesses sound }
 {
+    let Sound {
+        mut channels,
+        mut psg,
+    } = sound;
     let mut entries = [Entry { did: Did::SatOut }; 3];
     let mut cycles = 1;
-    for n in 0..3 {
-        let turn = sound.channels[n].line(ram);
-        let next = turn.channel;
-        let did = turn.did;
-        let entry = Entry { did };
-        sound.channels[n] = next;
+    for (n, channel) in channels.iter_mut().enumerate() {
+        let turn = channel.line(ram);
+        let entry = Entry { did: turn.did };
+        *channel = turn.channel;
         entries[n] = entry;
         cycles += entry.own_cycles(accesses.of(n));
-        let Did::Executed(kind, low) = did else {
-            continue;
-        };
-        if !words::is_load(kind) {
-            continue;
-        }
-        if next.muted {
-            continue;
-        }
-        sound.psg[(low / 256 % 16) as usize] = (low % 256) as u8;
+        turn.heard(&mut psg);
     }
     SoundLine {
-        sound,
+        sound: Sound { channels, psg },
         report: Report { cycles, entries },
     }
 }
