@@ -100,7 +100,7 @@ module _ (c : Chip) (ed : Editor) (store places : List ℕ) where
             call = record { answer = (rw is at e.answer) ∙ sym (eqb-true _ _ is); chip = rw (is, kept) chip };
             store-after = rw is (rw is at e.store-after);
             places-after = rw (is, kept, ← entry) p.places-after;
-            record_after_lem = rw (is, kept, chip, own_record ed c.editing (pushed u), ← entry) p.record_after_lem;
+            record_after_lem = rw (is, kept, chip, own_record ed c.editing (pushed u), ← entry) p.record-after;
           }
       go true false is kept e =
           let chip = rw (is, kept) at e.chip in
@@ -201,7 +201,7 @@ module _ (c : Chip) (ed : Editor) (store places : List ℕ) where
           record_of (undo_of (if t (with_editing (register_written c ed (register_at a) b) (editing_with c.editing ed (if k (pushed u) u))) c).editing ed)
           (if t (if k (set places (u.next % 256) e) places) places)
           ≡ if t (if k (take 256 (e ∷ record_of u places)) (record_of u places)) (record_of u places)
-      go true true = rw (own_record ed c.editing (pushed u)) (puts u places e whole).record_after_lem
+      go true true = rw (own_record ed c.editing (pushed u)) (puts u places e whole).record-after
       go true false = rw (own_record ed c.editing u)
       go false k = refl
 

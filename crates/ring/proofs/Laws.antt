@@ -75,7 +75,7 @@ unfolding record_of
 puts u places entry whole =
     record {
       places-after = refl;
-      record_after_lem =
+      record-after =
           either_side u.count 256
           (λ less. rw (lt-leb 256 u.count less) (push_short places u.next entry whole u.count less))
           (λ more. rw (le-leb 256 u.count more) (push_full places u.next entry whole u.count more));

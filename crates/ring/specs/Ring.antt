@@ -36,4 +36,4 @@ popped u = if (eqb u.count 0) u (record { next = back u.next; count = u.count - 
 -- what putting an entry at the next place promises: the places, and, with the entry counted, the record as a list
 pub record Puts (u : Undo) (places : List ℕ) (entry : ℕ) (after : List ℕ) : Type 0 where
   pub places-after : after ≡ set places (u.next % 256) entry
-  pub record_after_lem : record_of (pushed u) after ≡ take 256 (entry ∷ record_of u places)
+  pub record-after : record_of (pushed u) after ≡ take 256 (entry ∷ record_of u places)

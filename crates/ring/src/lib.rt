@@ -16,31 +16,14 @@ pub struct Undo {
     pub count: u16,
 }
 
-// Another number at a place, over the places as a slice.
-fn put_at(undo: Undo, places: &mut [u32], entry: u32)
-    requires { length places.old ≡ 256 }
-    ensures { Puts undo places.old entry places.new }
-{
-    let at = undo.next;
-    places[at as usize] = entry;
-}
-
 impl Undo {
     // The state with an entry more; a 257th drops the oldest.
     pub fn pushed(self) -> Undo
         ensures { result ≡ pushed self }
     {
-        let next = ((self.next as u16 + 1) % PLACES) as u8;
-        let count = self.count;
-        if PLACES <= count {
-            return Undo {
-                next,
-                count: PLACES,
-            };
-        }
         Undo {
-            next,
-            count: count + 1,
+            next: self.next.wrapping_add(1),
+            count: self.count.min(PLACES - 1) + 1,
         }
     }
 
@@ -48,13 +31,12 @@ impl Undo {
     pub fn popped(self) -> Undo
         ensures { result ≡ popped self }
     {
-        let count = self.count;
-        if count == 0 {
+        if self.count == 0 {
             return self;
         }
         Undo {
-            next: ((self.next as u16 + 255) % PLACES) as u8,
-            count: count - 1,
+            next: self.next.wrapping_sub(1),
+            count: self.count - 1,
         }
     }
 
@@ -65,22 +47,20 @@ impl Undo {
         if self.count == 0 {
             return 0;
         }
-        let at = ((self.next as u16 + 255) % PLACES) as u8;
-        places[at as usize]
+        places[self.next.wrapping_sub(1) as usize]
     }
 
     // What stands at the place that the next entry goes to.
     pub fn standing(self, places: &[u32; 256]) -> u32
         ensures { result ≡ get_or places.now (self.next % 256) 0 }
     {
-        let at = self.next;
-        places[at as usize]
+        places[self.next as usize]
     }
 
     // An entry put there.
     pub fn put(self, places: &mut [u32; 256], entry: u32)
         ensures { Puts self places.old entry places.new }
     {
-        put_at(self, places, entry)
+        places[self.next as usize] = entry;
     }
 }
