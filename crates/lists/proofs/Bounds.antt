@@ -1,22 +1,11 @@
 -- What the tests on bounds, lengths and handles say.
-use mathlib.Core.Path.{◌≡◌, sym, ◌∙◌}
-use mathlib.Core.Bool.{Bool, true, false, not}
-use Prim.Native.Nat.{ℕ, ◌-◌, ◌%◌, ◌<◌, ◌≤◌}
-use borrow.Author.Tests.{eqb-true, ltb-true, leb-true, not-true, not-false}
-use lib.Dec.{eqb, ltb}
+use Rattle.std.proofs.Common.{◌≡◌, ℕ, ◌-◌, ◌%◌, ◌<◌, ◌≤◌, true, eqb, ltb, eqb-true, ltb-true, leb-true}
 use Rattle.common.specs.Sizes.{ram_bytes}
 use Rattle.common.proofs.Tests.{both_true}
 use Rattle.lists.specs.Area.{proper, lower, upper, standing, has}
 use Rattle.lists.specs.Place.{askable}
 use Rattle.lists.specs.Remove.{taken}
 use Rattle.lists.specs.declared.Area.{Area}
-
--- a test that the code made and negated
-pub holds : {r t : Bool} → r ≡ t → not r ≡ false → t ≡ true
-holds {r} e h = sym e ∙ not-false r h
-
-pub fails : {r t : Bool} → r ≡ t → not r ≡ true → t ≡ false
-fails {r} e h = sym e ∙ not-true r h
 
 pub record Proper (from upto : ℕ) : Type 0 where
   pub from-even : from % 2 ≡ 0

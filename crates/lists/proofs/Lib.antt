@@ -2,7 +2,6 @@
 pub mod Bits
 pub mod Room
 pub mod Bounds
-pub mod Calls
 pub mod Uses
 pub mod Placing
 pub mod Only

@@ -1,15 +1,11 @@
 -- Placing has no two outcomes: what is asked fixes the answer, the address, the handle, the places and RAM. And refused it changes nothing.
-use mathlib.Core.Path.{◌≡◌, refl}
-use mathlib.Core.List.{List}
-use Prim.Native.Nat.{ℕ, ◌≤◌}
-use native.Mathlib.Omega.{arith}
+use Rattle.std.proofs.Common.{◌≡◌, ℕ, ◌≤◌, List, refl, arith}
 use Rattle.common.specs.Answers.{done}
 use Rattle.common.proofs.Order.{either_side}
 use Rattle.common.proofs.Tests.{clash}
 use Rattle.lists.specs.Room.{Lowest}
-use Rattle.lists.specs.Place.{FreeHandle, Places, other_length, not_askable, all_placed, no_gap, placed}
+use Rattle.lists.specs.Place.{FreeHandle, Placed, Places, other_length, not_askable, all_placed, no_gap, placed}
 use Rattle.lists.specs.declared.Area.{Area}
-use Rattle.lists.specs.declared.Placed.{Placed}
 
 -- two outcomes that agree in all that placing changes or answers
 pub record Same (p p' m m' : List ℕ) (r r' : Placed) : Type 0 where

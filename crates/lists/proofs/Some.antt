@@ -1,23 +1,13 @@
 -- Placing has an outcome for every area, places, RAM and list: its promise can be met.
-use mathlib.Core.Path.{◌≡◌, refl}
-use mathlib.Core.Bool.{Bool, true, false}
-use mathlib.Core.List.{List}
-use mathlib.Core.Logic.{◌⊎◌, inl, inr, ⊎_elim}
-use Prim.Native.Nat.{ℕ, zero, suc, ◌+◌, ◌%◌, ◌<◌, ◌≤◌}
-use native.Mathlib.Numerals.{add-one}
-use native.Mathlib.Omega.{arith}
-use borrow.Author.Count.{below_more}
-use borrow.Author.Tests.{eqb-true, eqb-false}
-use lib.Dec.{eqb}
-use lib.ListN.{length}
+use Rattle.std.proofs.Common.{◌≡◌, ℕ, zero, suc, ◌+◌, ◌%◌, ◌<◌, ◌≤◌, Bool, true, false, ◌⊎◌, List, length, eqb, refl, inl, inr, ⊎_elim, arith, add-one, below_more, eqb-true}
+use borrow.Author.Tests.{eqb-false}
 use Rattle.common.specs.Sizes.{ram_bytes}
 use Rattle.common.proofs.Order.{either_side}
 use Rattle.common.proofs.Tests.{clash}
 use Rattle.lists.specs.Area.{lower, upper, has}
 use Rattle.lists.specs.Room.{start_of, end_of, place_at, Apart, Fits}
-use Rattle.lists.specs.Place.{askable, FreeHandle, Places, other_length, not_askable, all_placed, no_gap, placed}
+use Rattle.lists.specs.Place.{askable, FreeHandle, Placed, Places, other_length, not_askable, all_placed, no_gap, placed}
 use Rattle.lists.specs.declared.Area.{Area}
-use Rattle.lists.specs.declared.Placed.{Placed}
 
 pub record Outcome (area : Area) (places ram list : List ℕ) : Type 0 where
   pub places-after : List ℕ

@@ -1,11 +1,7 @@
 -- What placing stores: the bytes of RAM before, in and after the list, and where a new place starts and ends.
-use mathlib.Core.Path.{◌≡◌, refl, ◌∙◌}
-use mathlib.Core.List.{List, [], ◌∷◌}
-use Prim.Native.Nat.{ℕ, zero, suc, ◌+◌, ◌-◌, ◌*◌, ◌/◌, ◌%◌, ◌<◌, ◌≤◌}
-use native.Mathlib.Nat.{add-zero, add-suc, suc-add}
-use native.Mathlib.Omega.{arith}
-use lib.ListN.{get_or, length, set, length-set}
-use lib.Seq.{sets, get_or-set_same, get_or-set_other}
+use Rattle.std.proofs.Common.{◌≡◌, ℕ, zero, suc, ◌+◌, ◌-◌, ◌*◌, ◌/◌, ◌%◌, ◌<◌, ◌≤◌, List, [], ◌∷◌, get_or, length, set, refl, ◌∙◌, arith, add-zero, add-suc, length-set, get_or-set_same, get_or-set_other}
+use Rattle.std.proofs.Math.Nat.{suc-add}
+use Rattle.std.proofs.lemmas.List.Edits.{sets}
 use Rattle.lists.specs.Room.{start_of, end_of, place_of}
 
 pub bytes-before : (ram : List ℕ) (a : ℕ) (list : List ℕ) (i : ℕ) → i < a → get_or (sets ram a list) i 0 ≡ get_or ram i 0

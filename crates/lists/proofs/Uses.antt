@@ -1,11 +1,6 @@
 -- A list in use: the rule's cases, and that what the code finds from address, mark and loop counter is the rule.
-use mathlib.Core.Path.{◌≡◌, refl, sym, ◌∙◌}
-use mathlib.Core.Bool.{Bool, true, false}
-use mathlib.Core.Logic.{⊎_elim}
-use Prim.Native.Nat.{ℕ, ◌+◌, ◌-◌, ◌*◌, ◌/◌, ◌%◌, ◌<◌, ◌≤◌}
-use native.Mathlib.Omega.{arith}
-use borrow.Author.Tests.{ltb-true, leb-true, lt-ltb, le-leb}
-use lib.Dec.{leb, ltb}
+use Rattle.std.proofs.Common.{◌≡◌, ℕ, ◌+◌, ◌-◌, ◌*◌, ◌/◌, ◌%◌, ◌<◌, ◌≤◌, Bool, true, false, ◌&&◌, leb, ltb, sym, ◌∙◌, ⊎_elim, arith, ltb-true, leb-true, lt-ltb, le-leb, nat_cmp, is_le, is_lt}
+use Rattle.std.proofs.lemmas.Bool.Decides.{nat_tests}
 use Rattle.common.proofs.Order.{either_side}
 use Rattle.common.specs.Choice.{both, either}
 use Rattle.common.proofs.Tests.{both_true, either_true, or_true, same_test, clash}
@@ -85,6 +80,10 @@ pub tests-rule :
 tests-rule {s} {e} {address} {mark} {counter} {r} t even even' =
     same_test r _ (λ h. case_uses s e address mark counter even even' (t.used h)) (λ h. t.told (uses_case s e address mark counter h))
 
+-- the library's test whether an address lies in a range
+pub range_within : (s e a : ℕ) {r : Bool} → r ≡ (is_le (nat_cmp s a) && is_lt (nat_cmp a e)) → r ≡ within s e a
+range_within s e a is = grind (arith, nat_tests)
+
 -- the test on a stretch of addresses, both ways
 record Meets (s e low high : ℕ) : Type 0 where
   some : s < e
@@ -104,11 +103,11 @@ meets-told {s} {e} {low} {high} is g h i = is ∙ simp (lt-ltb s e g, le-leb s h
 
 module _ {s e address mark counter : ℕ} {r : Bool} where
   -- with the loop counter at 0 the address alone counts
-  pub by_one : counter ≡ 0 → r ≡ meets s e address address → TestsUse s e address mark counter r
-  by_one none is = record { used = λ t. let m = meets-is is t in by_address m.reached m.left; told = told }
+  pub by_one : counter ≡ 0 → r ≡ within s e address → TestsUse s e address mark counter r
+  by_one none is = record { used = λ t. let u = inside (sym is ∙ t) in by_address u.0 u.1; told = told }
     where
       told : Uses s e address mark counter → r ≡ true
-      told (by_address g h) = meets-told is (omega arith) g h
+      told (by_address g h) = is ∙ outside_in g h
       told (by-mark some g h) = absurd (omega arith)
       told (by_word w some low g h i j) = absurd (omega arith)
 
@@ -126,16 +125,15 @@ module _ {s e address mark counter : ℕ} {r : Bool} where
       told (by-mark some g h) = meets-told is (omega arith) (omega arith) h
       told (by_word w some low g h i j) = meets-told is (omega arith) (omega arith) (omega arith)
 
--- else the mark, or the address
-module _ {s e address mark counter : ℕ} (some : counter ≡ 0 → ⊥) (high : address ≤ mark) {m : Bool} (is : m ≡ meets s e mark mark) where
-  pub by_the_mark : m ≡ true → TestsUse s e address mark counter true
-  by_the_mark t =
-      record { used = λ u. let n = meets-is is t in by-mark (omega (arith, some)) n.reached n.left; told = λ u. refl }
+  -- else the mark, or the address
+  pub by_the_mark : (counter ≡ 0 → ⊥) → r ≡ true → r ≡ within s e mark → TestsUse s e address mark counter r
+  by_the_mark some t is = record { used = λ u. let n = inside (sym is ∙ t) in by-mark (omega (arith, some)) n.0 n.1; told = λ u. t }
 
-  pub by-neither : {r : Bool} → m ≡ false → r ≡ meets s e address address → TestsUse s e address mark counter r
-  by-neither {r} f is-r = record { used = λ t. let n = meets-is is-r t in by_address n.reached n.left; told = told }
+  pub by-neither :
+      {m : Bool} → address ≤ mark → m ≡ false → m ≡ within s e mark → r ≡ within s e address → TestsUse s e address mark counter r
+  by-neither high off is-m is = record { used = λ t. let u = inside (sym is ∙ t) in by_address u.0 u.1; told = told }
     where
       told : Uses s e address mark counter → r ≡ true
-      told (by_address g h) = meets-told is-r (omega arith) g h
-      told (by-mark more g h) = absurd (clash (meets-told is (omega arith) g h) f)
-      told (by_word w more low g h i j) = absurd (omega arith)
+      told (by_address g h) = is ∙ outside_in g h
+      told (by-mark some g h) = absurd (clash (is-m ∙ outside_in g h) off)
+      told (by_word w some low g h i j) = absurd (omega arith)

@@ -1,10 +1,11 @@
 -- 02, L12: the area, its bounds, and which of the 64 handles have a list.
-use Rattle.std.specs.Prelude.{◌≡◌, Bool, ℕ, ◌*◌, ◌/◌, ◌%◌, eqb, leb, ltb}
+use Rattle.std.specs.Prelude.{◌≡◌, Bool, ℕ, Result, Ok, Err, ◌*◌, ◌/◌, ◌%◌, eqb, leb, ltb}
+use Rattle.common.specs.declared.answer.Refusal.{Refusal}
 use Rattle.common.specs.Answers.{done, wrong_area, served}
 use Rattle.common.specs.Choice.{if, both, bit}
+use Rattle.common.specs.Refusals.{number}
 use Rattle.common.specs.Sizes.{ram_bytes}
 use Rattle.lists.specs.declared.Area.{Area}
-use Rattle.lists.specs.declared.Changed.{Changed}
 
 -- bounds as an area's have to be: even, the lower below the higher, the higher at most 65,536
 unfoldable pub proper : ℕ → ℕ → Bool
@@ -35,6 +36,16 @@ area_of from upto = record { from = from / 2; upto = upto / 2; used = 0 }
 -- giving it: refused if one stands already, or the bounds are others than said
 unfoldable pub area_answer : Area → ℕ → ℕ → ℕ
 area_answer area from upto = if (standing area) wrong_area (if (proper from upto) done wrong_area)
+
+-- what giving the area and removing a list give: the area after it, and the answer
+pub record Changed : Type 0 where
+  pub area : Area
+  pub answer : ℕ
+
+-- refused, the area that was
+abbrev pub told : Area → Result Area Refusal → Changed
+told area (Ok after) = record { area = after; answer = done }
+told area (Err refusal) = record { area = area; answer = number refusal }
 
 pub record Gives (area : Area) (from upto : ℕ) (r : Changed) : Type 0 where
   pub answer : r.answer ≡ area_answer area from upto

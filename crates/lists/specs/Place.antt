@@ -1,11 +1,13 @@
 -- 02, L12: placing a list.
-use Rattle.std.specs.Prelude.{◌≡◌, Bool, true, false, List, ℕ, ◌+◌, ◌-◌, ◌%◌, ◌^◌, ◌<◌, eqb, leb, ltb, length, set}
+use Rattle.std.specs.Prelude.{◌≡◌, Bool, true, false, List, ℕ, Result, Ok, Err, ◌+◌, ◌-◌, ◌%◌, ◌^◌, ◌<◌, eqb, leb, ltb, length, set}
 use Rattle.std.proofs.lemmas.List.Edits.{sets}
+use Rattle.common.specs.declared.answer.Refusal.{Refusal}
 use Rattle.common.specs.Answers.{done, wrong_length, wrong_area, all_placed_answer, no_gap_answer}
 use Rattle.common.specs.Choice.{both}
+use Rattle.common.specs.Refusals.{number}
 use Rattle.common.specs.Sizes.{ram_bytes}
 use Rattle.lists.specs.declared.Area.{Area}
-use Rattle.lists.specs.declared.Placed.{Placed}
+use Rattle.lists.specs.declared.NewList.{NewList}
 use Rattle.lists.specs.Area.{lower, upper, standing, has}
 use Rattle.lists.specs.Room.{place_of, Fits, Lowest}
 
@@ -23,9 +25,20 @@ pub record FreeHandle (area : Area) (handle : ℕ) : Type 0 where
 abbrev pub with_list : Area → ℕ → Area
 with_list area handle = record { from = area.from; upto = area.upto; used = area.used + 2 ^ handle }
 
+-- what placing gives: the area after it, the answer, and where it is served the list's address and handle
+pub record Placed : Type 0 where
+  pub area : Area
+  pub answer : ℕ
+  pub address : ℕ
+  pub handle : ℕ
+
 -- refused, address and handle are 0
 abbrev pub refused : ℕ → Area → Placed
 refused number area = record { area = area; answer = number; address = 0; handle = 0 }
+
+abbrev pub told_placed : Area → Result NewList Refusal → Placed
+told_placed area (Ok list) = record { area = list.area; answer = done; address = list.address; handle = list.handle }
+told_placed area (Err refusal) = refused (number refusal) area
 
 -- the refusals in their order, each only where none before it holds; served, the bytes are copied to the lowest address where the list
 -- fits, under the lowest free handle, and no other byte of RAM and no other place changes

@@ -3,8 +3,7 @@ use Rattle.std.specs.Prelude.{◌≡◌, Bool, ℕ, ◌-◌, ◌^◌, ltb}
 use Rattle.common.specs.Answers.{done, wrong_area, no_handle_answer, list_in_use, served}
 use Rattle.common.specs.Choice.{if, both}
 use Rattle.lists.specs.declared.Area.{Area}
-use Rattle.lists.specs.declared.Changed.{Changed}
-use Rattle.lists.specs.Area.{standing, has}
+use Rattle.lists.specs.Area.{standing, has, Changed}
 
 -- a handle that has a list
 unfoldable pub taken : Area → ℕ → Bool

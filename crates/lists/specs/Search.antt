@@ -1,31 +1,23 @@
 -- How the code looks for room, for a handle and for a word in a list. No public promise cites this module.
-use Rattle.std.specs.Prelude.{◌≡◌, Bool, true, false, List, ◌⊎◌, ℕ, ◌+◌, ◌%◌, ◌<◌, ◌≤◌, leb, ltb, length}
+use Rattle.std.specs.Prelude.{◌≡◌, Bool, true, List, ◌⊎◌, ℕ, ◌+◌, ◌%◌, ◌<◌, ◌≤◌, leb, ltb}
 use Rattle.common.specs.Choice.{both, bit}
 use Rattle.common.specs.Sizes.{ram_bytes}
-use Rattle.lists.specs.declared.Area.{Area}
 use Rattle.lists.specs.declared.Sought.{Sought}
 use Rattle.lists.specs.Room.{start_of, end_of, place_at, Apart}
-use Rattle.lists.specs.Place.{askable, FreeHandle}
-
--- the lower of two addresses
-pub record Lower (a b r : ℕ) : Type 0 where
-  pub first : r ≤ a
-  pub second : r ≤ b
-  pub no_less : (c : ℕ) → c ≤ a → c ≤ b → c ≤ r
 
 -- a list ends at the address or before, or begins at the address that is kept beside it or after
 abbrev pub Aside : ℕ → Sought → Type 0
 Aside p at = (end_of p ≤ at.address) ⊎ (at.above ≤ start_of p)
 
--- one place: where a list in use is in the way the address goes up past it, and no address that it skips was apart from it. Where it
--- stays, so does the room
-pub record Past (used : Bool) (p bytes : ℕ) (before after : Sought) : Type 0 where
+-- one list: where it is in the way the address goes up past it, and no address that it skips was apart from it. Where it stays, so does
+-- the room
+pub record Past (p bytes : ℕ) (before after : Sought) : Type 0 where
   pub up : before.address ≤ after.address
   pub down : after.above ≤ before.above
   pub bound : after.address ≤ ram_bytes
   pub even : before.address % 2 ≡ 0 → after.address % 2 ≡ 0
-  pub low : (b : ℕ) → before.address ≤ b → (used ≡ true → Apart p b bytes) → after.address ≤ b
-  pub aside : used ≡ true → Aside p after
+  pub low : (b : ℕ) → before.address ≤ b → Apart p b bytes → after.address ≤ b
+  pub aside : Aside p after
   pub still : after.address ≡ before.address → before.address + bytes ≤ before.above → before.address + bytes ≤ after.above
 
 -- so many bytes from an address on have none in common with any placed list
@@ -48,19 +40,6 @@ pub record Found (used : ℕ) (places : List ℕ) (bytes from a : ℕ) : Type 0 
   pub bound : a ≤ ram_bytes
   pub clear : Clear used places bytes a
   pub lowest : (b : ℕ) → from ≤ b → Clear used places bytes b → a ≤ b
-
--- the lowest free handle, or 64 if there is none
-pub record FreeOrNone (used handle : ℕ) : Type 0 where
-  pub bound : handle ≤ 64
-  pub free : handle < 64 → bit handle used ≡ false
-  pub taken : (k : ℕ) → k < handle → bit k used ≡ true
-
--- what is known of a list once 1, 18 and 19 are ruled out and its handle is found
-pub record Placeable (area : Area) (handle : ℕ) (places ram list : List ℕ) : Type 0 where
-  pub slots : length places ≡ 64
-  pub long : length ram ≡ ram_bytes
-  pub ask : askable area (length list) ≡ true
-  pub free : FreeHandle area handle
 
 -- whether an address from low up to high lies in the list from s up to e
 unfoldable pub meets : ℕ → ℕ → ℕ → ℕ → Bool

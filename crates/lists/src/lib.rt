@@ -2,16 +2,17 @@
 
 #![tactic(auto)]
 
-ghost use Rattle.std.specs.Prelude.{◌≡◌, true, false, ◌+◌, ◌%◌, ◌^◌, ◌<◌, ◌≤◌, length};
-ghost use Rattle.lists.specs.Area.{proper, standing, has, Gives};
+ghost use Rattle.std.specs.Prelude.{◌≡◌, true, false, ℕ, ◌+◌, ◌<◌, ◌≤◌, MatchOption};
+ghost use Rattle.lists.specs.Area.{lower, upper, proper, standing, has, told, Gives};
 ghost use Rattle.lists.specs.Room.{start_of, end_of, place_of};
-ghost use Rattle.lists.specs.Place.{askable, with_list, refused, Places};
+ghost use Rattle.lists.specs.Place.{askable, with_list, FreeHandle, told_placed, Places};
 ghost use Rattle.lists.specs.Remove.{taken, without_list, Removes};
 ghost use Rattle.lists.specs.InUse.{uses};
-ghost use Rattle.lists.specs.Search.{Lower, Past, Passed, Found, FreeOrNone, Placeable, meets};
+ghost use Rattle.lists.specs.Search.{Past, Passed, Found, meets};
 
-use common::answer::{ALL_PLACED, DONE, LIST_IN_USE, NO_GAP, NO_HANDLE, WRONG_AREA, WRONG_LENGTH};
+use common::answer::Refusal;
 use common::size::RAM;
+use std::ops::Range;
 
 // The room for lists: how many words lie below its lower and below its higher bound, and which of the 64 handles have a list, a bit
 // each. With both bounds 0 there is none.
@@ -23,18 +24,10 @@ pub struct Area {
     pub upto: u16,
 }
 
-// What giving the area and removing a list give: the area after it, and the answer.
+// A list that was placed: the area with it, its address and its handle.
 #[derive(Clone, Copy)]
-pub struct Changed {
+pub struct NewList {
     pub area: Area,
-    pub answer: u8,
-}
-
-// What placing gives: the area after it, the answer, and where it is served the list's address and handle.
-#[derive(Clone, Copy)]
-pub struct Placed {
-    pub area: Area,
-    pub answer: u8,
     pub address: u32,
     pub handle: u32,
 }
@@ -71,73 +64,23 @@ struct Sought {
     above: u32,
 }
 
-// The lower of two addresses.
-fn lower(a: u32, b: u32) -> u32
-    ensures { Lower a b result }
-{
-    if a < b {
-        return a;
-    }
-    b
-}
-
-// One place seen: where a list in use is in the way of so many bytes, the search goes on at its end.
-fn past(used: bool, place: u32, bytes: u32, at: Sought) -> Sought
-    requires { (at.address ≤ 65536) × (bytes ≤ 65536) }
-    ensures { Past used place bytes at result }
-{
-    if !used {
-        return at;
-    }
-    let start = start_of(place);
-    if at.address + bytes <= start {
-        return Sought {
-            address: at.address,
-            above: lower(at.above, start),
-        };
-    }
-    let end = end_of(place);
-    if end <= at.address {
-        return at;
-    }
-    Sought {
-        address: end,
-        above: at.above,
-    }
-}
-
-// Every list seen once, by rising handles.
-fn pass(used: u64, places: &[u32], bytes: u32, from: u32) -> Sought
-    requires { (length places.now ≡ 64) × (from ≤ 65536) × (bytes ≤ 65536) }
-    ensures { Passed used places.now bytes from 64 result }
-{
-    let mut at = Sought {
-        address: from,
-        above: 131072,
-    };
-    let mut rest = used;
-    let mut k = 0;
-    while rest != 0 {
-        at = past(rest % 2 == 1, places[k], bytes, at);
-        rest = rest / 2;
-        k += 1;
-    }
-    at
-}
-
-// The lowest even address from a bound on where so many bytes have none in common with a placed list: passes until no list that was
-// seen above the address is in the way.
-fn lowest(used: u64, places: &[u32], bytes: u32, from: u32) -> u32
-    requires { (length places.now ≡ 64) × (from % 2 ≡ 0) × (from ≤ 65536) × (bytes ≤ 65536) }
-    ensures { Found used places.now bytes from result }
-{
-    let mut a = from;
-    loop {
-        let next = pass(used, places, bytes, a);
-        if next.address + bytes <= next.above {
-            return next.address;
+impl Sought {
+    // One list seen: where it is in the way of so many bytes, the search goes on at its end.
+    fn past(self, place: u32, bytes: u32) -> Sought
+        requires { (self.address ≤ 65536) × (bytes ≤ 65536) }
+        ensures { Past place bytes self result }
+    {
+        let start = start_of(place);
+        if self.address + bytes <= start {
+            return Sought {
+                address: self.address,
+                above: self.above.min(start),
+            };
         }
-        a = next.address;
+        Sought {
+            address: self.address.max(end_of(place)),
+            above: self.above,
+        }
     }
 }
 
@@ -146,235 +89,203 @@ fn lowest(used: u64, places: &[u32], bytes: u32, from: u32) -> u32
 fn proper(from: u32, upto: u32) -> bool
     ensures { result ≡ proper from upto }
 {
-    if from % 2 != 0 {
-        return false;
-    }
-    if upto % 2 != 0 {
-        return false;
-    }
-    if upto <= from {
-        return false;
-    }
-    upto <= 65536
+    from % 2 == 0 && upto % 2 == 0 && from < upto && upto as usize <= RAM
 }
 
-// Whether an area stands.
-#[tactic(auto, unfolding(crate::specs::Area::standing))]
-fn standing(area: Area) -> bool
-    ensures { result ≡ standing area }
-{
-    proper(area.from as u32 * 2, area.upto as u32 * 2)
-}
+impl Area {
+    // Its bounds.
+    fn lower(self) -> u32
+        ensures { result ≡ lower self }
+    {
+        self.from as u32 * 2
+    }
 
-// Whether a list of so many bytes can be asked for.
-#[tactic(auto, unfolding(crate::specs::Place::askable))]
-fn askable(area: Area, bytes: usize) -> bool
-    ensures { result ≡ askable area bytes }
-{
-    if !standing(area) {
-        return false;
+    fn upper(self) -> u32
+        ensures { result ≡ upper self }
+    {
+        self.upto as u32 * 2
     }
-    if bytes == 0 {
-        return false;
-    }
-    if bytes % 2 != 0 {
-        return false;
-    }
-    bytes <= area.upto as usize * 2 - area.from as usize * 2
-}
 
-// The lowest free handle, or 64: the lowest bit that is 0.
-#[tactic(auto, using(crate::proofs::Bits::free_of))]
-fn free_handle(used: u64) -> usize
-    ensures { FreeOrNone used result }
-{
-    u64::trailing_zeros(18446744073709551615 - used) as usize
-}
-
-// The number with the bit of a handle and no other.
-fn power(handle: usize) -> u64
-    requires { handle < 64 }
-    ensures { result ≡ 2 ^ handle }
-{
-    1u64 << handle
-}
-
-// The area with one list more.
-fn with_list(area: Area, handle: usize) -> Area
-    requires { (handle < 64) × (has area handle ≡ false) }
-    ensures { result ≡ with_list area handle }
-{
-    Area {
-        used: area.used + power(handle),
-        from: area.from,
-        upto: area.upto,
+    // Whether it stands.
+    #[tactic(auto, unfolding(crate::specs::Area::standing))]
+    fn standing(self) -> bool
+        ensures { result ≡ standing self }
+    {
+        proper(self.lower(), self.upper())
     }
-}
 
-// The area with one list less.
-fn without_list(area: Area, handle: usize) -> Area
-    requires { (handle < 64) × (has area handle ≡ true) }
-    ensures { result ≡ without_list area handle }
-{
-    Area {
-        used: area.used - power(handle),
-        from: area.from,
-        upto: area.upto,
+    // Whether a list of so many bytes can be asked for.
+    #[tactic(auto, unfolding(crate::specs::Place::askable))]
+    fn askable(self, bytes: usize) -> bool
+        ensures { result ≡ askable self bytes }
+    {
+        self.standing()
+            && bytes != 0
+            && bytes % 2 == 0
+            && bytes <= self.upper().saturating_sub(self.lower()) as usize
     }
-}
 
-// A refusal.
-fn refused(answer: u8, area: Area) -> Placed
-    ensures { result ≡ refused answer area }
-{
-    Placed {
-        area,
-        answer,
-        address: 0,
-        handle: 0,
+    // Whether a handle has a list.
+    #[tactic(auto, unfolding(crate::specs::Remove::taken))]
+    fn taken(self, handle: u32) -> bool
+        ensures { result ≡ taken self handle }
+    {
+        handle < 64 && (self.used >> handle) % 2 == 1
     }
-}
 
-// A list placed under a free handle, if it fits.
-fn place_under(area: Area, handle: usize, places: &mut [u32], ram: &mut [u8], list: &[u8]) -> Placed
-    requires { Placeable area handle places.old ram.old list.now }
-    ensures { Places area places.old ram.old list.now places.new ram.new result }
-{
-    let bytes = list.len() as u32;
-    let address = lowest(area.used, places, bytes, area.from as u32 * 2);
-    if area.upto as u32 * 2 < address + bytes {
-        return refused(NO_GAP, area);
+    // The lowest free handle.
+    fn free_handle(self) -> Option<u32>
+        ensures { MatchOption result ((k : ℕ) → k < 64 → has self k ≡ true) (FreeHandle self) }
+    {
+        if self.used == u64::MAX {
+            return None;
+        }
+        Some(self.used.trailing_ones())
     }
-    common::put(ram, address as usize, list);
-    places[handle] = place_of(address, bytes);
-    Placed {
-        area: with_list(area, handle),
-        answer: DONE,
-        address,
-        handle: handle as u32,
-    }
-}
 
-// A list placed, over the places as a slice.
-fn place_in(area: Area, places: &mut [u32], ram: &mut [u8], list: &[u8]) -> Placed
-    requires { length places.old ≡ 64 }
-    ensures { Places area places.old ram.old list.now places.new ram.new result }
-{
-    if ram.len() != RAM {
-        return refused(WRONG_LENGTH, area);
+    // The area with one list more.
+    fn with_list(self, handle: u32) -> Area
+        requires { (handle < 64) × (has self handle ≡ false) }
+        ensures { result ≡ with_list self handle }
+    {
+        Area {
+            used: self.used + (1 << handle),
+            ..self
+        }
     }
-    if !askable(area, list.len()) {
-        return refused(WRONG_AREA, area);
-    }
-    let handle = free_handle(area.used);
-    if handle == 64 {
-        return refused(ALL_PLACED, area);
-    }
-    place_under(area, handle, places, ram, list)
-}
 
-// Places a list: its bytes go to the lowest even address where it fits between the others.
-pub fn place(area: Area, places: &mut [u32; 64], ram: &mut [u8], list: &[u8]) -> Placed
-    ensures { Places area places.old ram.old list.now places.new ram.new result }
-{
-    place_in(area, places, ram, list)
-}
-
-// Whether a handle has a list.
-#[tactic(auto, unfolding(crate::specs::Remove::taken))]
-fn taken(area: Area, handle: u32) -> bool
-    ensures { result ≡ taken area handle }
-{
-    if 64 <= handle {
-        return false;
+    // The area with one list less.
+    fn without_list(self, handle: u32) -> Area
+        requires { (handle < 64) × (has self handle ≡ true) }
+        ensures { result ≡ without_list self handle }
+    {
+        Area {
+            used: self.used - (1 << handle),
+            ..self
+        }
     }
-    (area.used >> handle) % 2 == 1
-}
 
-// Removes a list, unless some channel plays it.
-#[tactic(auto, unfolding(crate::specs::Remove::remove_answer))]
-pub fn remove(area: Area, handle: u32, playing: bool) -> Changed
-    ensures { Removes area handle playing result }
-{
-    if !standing(area) {
-        return Changed {
-            area,
-            answer: WRONG_AREA,
+    // Every list seen once, by rising handles, from an address on.
+    fn pass(self, places: &[u32; 64], bytes: u32, from: u32) -> Sought
+        requires { (from ≤ 65536) × (bytes ≤ 65536) }
+        ensures { Passed self.used places.now bytes from 64 result }
+    {
+        let mut at = Sought {
+            address: from,
+            above: u32::MAX,
         };
+        for (k, place) in places.iter().enumerate() {
+            if self.used >> k == 0 {
+                return at;
+            }
+            if (self.used >> k) % 2 == 1 {
+                at = at.past(*place, bytes);
+            }
+        }
+        at
     }
-    if !taken(area, handle) {
-        return Changed {
-            area,
-            answer: NO_HANDLE,
-        };
-    }
-    if playing {
-        return Changed {
-            area,
-            answer: LIST_IN_USE,
-        };
-    }
-    Changed {
-        area: without_list(area, handle as usize),
-        answer: DONE,
+
+    // The lowest even address from the lower bound on where so many bytes have none in common with a placed list: passes until no list
+    // that was seen above the address is in the way.
+    fn lowest(self, places: &[u32; 64], bytes: u32) -> u32
+        requires { (lower self ≤ 65536) × (bytes ≤ 65536) }
+        ensures { Found self.used places.now bytes (lower self) result }
+    {
+        let mut a = self.lower();
+        loop {
+            let next = self.pass(places, bytes, a);
+            if next.address + bytes <= next.above {
+                return next.address;
+            }
+            a = next.address;
+        }
     }
 }
 
 // Gives the area, by its bounds.
 #[tactic(auto, unfolding(crate::specs::Area::area_answer))]
-pub fn give(area: Area, from: u32, upto: u32) -> Changed
-    ensures { Gives area from upto result }
+pub fn give(area: Area, from: u32, upto: u32) -> Result<Area, Refusal>
+    ensures { Gives area from upto (told area result) }
 {
-    if standing(area) {
-        return Changed {
-            area,
-            answer: WRONG_AREA,
-        };
+    if area.standing() || !proper(from, upto) {
+        return Err(Refusal::WrongArea);
     }
-    if !proper(from, upto) {
-        return Changed {
-            area,
-            answer: WRONG_AREA,
-        };
+    Ok(Area {
+        used: 0,
+        from: (from / 2) as u16,
+        upto: (upto / 2) as u16,
+    })
+}
+
+// Places a list: its bytes go to the lowest even address where it fits between the others.
+pub fn place(
+    area: Area,
+    places: &mut [u32; 64],
+    ram: &mut [u8],
+    list: &[u8],
+) -> Result<NewList, Refusal>
+    ensures { Places area places.old ram.old list.now places.new ram.new (told_placed area result) }
+{
+    if ram.len() != RAM {
+        return Err(Refusal::WrongLength);
     }
-    Changed {
-        area: Area {
-            used: 0,
-            from: (from / 2) as u16,
-            upto: (upto / 2) as u16,
-        },
-        answer: DONE,
+    if !area.askable(list.len()) {
+        return Err(Refusal::WrongArea);
     }
+    let Some(handle) = area.free_handle() else {
+        return Err(Refusal::AllPlaced);
+    };
+    let bytes = list.len() as u32;
+    let address = area.lowest(places, bytes);
+    if area.upper() < address + bytes {
+        return Err(Refusal::NoGap);
+    }
+    common::put(ram, address as usize, list);
+    places[handle as usize] = place_of(address, bytes);
+    Ok(NewList {
+        area: area.with_list(handle),
+        address,
+        handle,
+    })
+}
+
+// Removes a list, unless some channel plays it.
+#[tactic(auto, unfolding(crate::specs::Remove::remove_answer))]
+pub fn remove(area: Area, handle: u32, playing: bool) -> Result<Area, Refusal>
+    ensures { Removes area handle playing (told area result) }
+{
+    if !area.standing() {
+        return Err(Refusal::WrongArea);
+    }
+    if !area.taken(handle) {
+        return Err(Refusal::NoHandle);
+    }
+    if playing {
+        return Err(Refusal::ListInUse);
+    }
+    Ok(area.without_list(handle))
 }
 
 // Whether an address from low up to high lies in a list.
 #[tactic(auto, unfolding(crate::specs::Search::meets))]
-fn meets(start: u32, end: u32, low: u32, high: u32) -> bool
-    ensures { result ≡ meets start end low high }
+fn meets(list: &Range<u32>, low: u32, high: u32) -> bool
+    ensures { result ≡ meets list.now.start list.now.end low high }
 {
-    if end <= start {
-        return false;
-    }
-    if high < start {
-        return false;
-    }
-    low < end
+    list.start < list.end && list.start <= high && low < list.end
 }
 
 // Whether an enabled channel with this address, mark and loop counter has the list at a place in use.
 pub fn in_use(place: u32, address: u16, mark: u16, counter: u16) -> bool
     ensures { result ≡ uses (start_of place) (end_of place) address mark counter }
 {
-    let start = start_of(place);
-    let end = end_of(place);
+    let list = start_of(place)..end_of(place);
+    let address = address as u32;
+    let mark = mark as u32;
     if counter == 0 {
-        return meets(start, end, address as u32, address as u32);
+        return list.contains(&address);
     }
     if mark < address {
-        return meets(start, end, mark as u32, address as u32);
+        return meets(&list, mark, address);
     }
-    if meets(start, end, mark as u32, mark as u32) {
-        return true;
-    }
-    meets(start, end, address as u32, address as u32)
+    list.contains(&mark) || list.contains(&address)
 }

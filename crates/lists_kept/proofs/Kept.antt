@@ -14,10 +14,9 @@ use Rattle.common.specs.Choice.{if}
 use Rattle.common.specs.Sizes.{ram_bytes}
 use Rattle.common.proofs.Tests.{both_true, clash}
 use Rattle.lists.specs.declared.Area.{Area}
-use Rattle.lists.specs.declared.Placed.{Placed}
 use Rattle.lists.specs.Area.{lower, upper, standing, has}
 use Rattle.lists.specs.Room.{start_of, end_of, place_of, place_at, Fits}
-use Rattle.lists.specs.Place.{askable, FreeHandle, with_list, Places, other_length, not_askable, all_placed, no_gap, placed}
+use Rattle.lists.specs.Place.{askable, FreeHandle, with_list, Placed, Places, other_length, not_askable, all_placed, no_gap, placed}
 use Rattle.lists.specs.Remove.{without_list}
 use Rattle.lists.proofs.Bits.{none-on, more-others, less-off, less-others}
 use Rattle.lists.proofs.Bounds.{Askable, askable-is}

@@ -11,10 +11,9 @@ use Rattle.common.specs.Answers.{done, wrong_area, list_in_use, served}
 use Rattle.common.specs.Choice.{if, either}
 use Rattle.common.proofs.Tests.{or_true, clash}
 use Rattle.lists.specs.declared.Area.{Area}
-use Rattle.lists.specs.declared.Placed.{Placed}
 use Rattle.lists.specs.Area.{standing, area_answer}
 use Rattle.lists.specs.Room.{start_of, end_of, place_at}
-use Rattle.lists.specs.Place.{Places, other_length, not_askable, all_placed, no_gap, placed}
+use Rattle.lists.specs.Place.{Placed, Places, other_length, not_askable, all_placed, no_gap, placed}
 use Rattle.lists.proofs.Bits.{less-others}
 use Rattle.lists.proofs.Room.{start-even, end_even}
 use Rattle.lists.proofs.Some.{some}

@@ -1,9 +1,8 @@
 -- 02, L12: what the calls promise. Each changes nothing of the chip but its area and the handles in use.
 use Rattle.std.specs.Prelude.{◌≡◌, List, ℕ}
-use Rattle.lists.specs.declared.Placed.{Placed}
 use Rattle.lists.specs.Area.{area_of, area_answer}
 use Rattle.lists.specs.Room.{place_at}
-use Rattle.lists.specs.Place.{Places}
+use Rattle.lists.specs.Place.{Placed, Places}
 use Rattle.lists.specs.Remove.{remove_answer, without_list}
 use Rattle.chip.specs.declared.Answered.{Answered}
 use Rattle.chip.specs.declared.Chip.{Chip}

@@ -3,12 +3,14 @@
 #![tactic(auto)]
 
 ghost use Rattle.std.specs.Prelude.{◌≡◌};
+ghost use Rattle.lists.specs.Area.{told};
 ghost use Rattle.lists.specs.Room.{place_at};
-ghost use Rattle.chip.specs.Editors.{with_lists};
+ghost use Rattle.chip.specs.Editors.{lists_of, with_lists};
 ghost use Rattle.placing.specs.InUse.{used_by, in_use_of};
 ghost use Rattle.placing.specs.Contract.{GivesArea, PlacesList, RemovesList};
 
 use chip::{Answered, Chip};
+use common::answer::{DONE, Refusal};
 use lists::Area;
 use sound::{Channel, Sound};
 
@@ -26,33 +28,51 @@ pub struct PlacedList {
 fn with_lists(mut chip: Chip, lists: Area) -> Chip
     ensures { result ≡ with_lists chip lists }
 {
-    let mut editing = chip.editing;
-    editing.lists = lists;
-    chip.editing = editing;
+    chip.editing.lists = lists;
     chip
+}
+
+// The answer of a call that changes the area: the chip with it, or as it was where the call is refused.
+fn changed(chip: Chip, change: Result<Area, Refusal>) -> Answered
+    ensures answer { result.answer ≡ (told (lists_of chip) change).answer }
+    ensures chip { result.chip ≡ with_lists chip (told (lists_of chip) change).area }
+{
+    match change {
+        Ok(lists) => Answered {
+            chip: with_lists(chip, lists),
+            answer: DONE,
+        },
+        Err(refusal) => Answered {
+            chip,
+            answer: refusal.number(),
+        },
+    }
 }
 
 // Gives the area, by its bounds.
 pub fn area(chip: Chip, from: u32, upto: u32) -> Answered
     ensures { GivesArea chip from upto result }
 {
-    let told = lists::give(chip.editing.lists, from, upto);
-    Answered {
-        answer: told.answer,
-        chip: with_lists(chip, told.area),
-    }
+    changed(chip, lists::give(chip.editing.lists, from, upto))
 }
 
 // Places a list: its bytes go to the lowest even address of the area where it fits between the others.
 pub fn place(chip: Chip, places: &mut [u32; 64], ram: &mut [u8], list: &[u8]) -> PlacedList
     ensures { PlacesList chip places.old ram.old list.now places.new ram.new result }
 {
-    let told = lists::place(chip.editing.lists, places, ram, list);
-    PlacedList {
-        answer: told.answer,
-        chip: with_lists(chip, told.area),
-        address: told.address,
-        handle: told.handle,
+    match lists::place(chip.editing.lists, places, ram, list) {
+        Ok(new) => PlacedList {
+            chip: with_lists(chip, new.area),
+            answer: DONE,
+            address: new.address,
+            handle: new.handle,
+        },
+        Err(refusal) => PlacedList {
+            chip,
+            answer: refusal.number(),
+            address: 0,
+            handle: 0,
+        },
     }
 }
 
@@ -60,45 +80,31 @@ pub fn place(chip: Chip, places: &mut [u32; 64], ram: &mut [u8], list: &[u8]) ->
 fn used_by(channel: Channel, place: u32) -> bool
     ensures { result ≡ used_by channel place }
 {
-    if !channel.enabled {
-        return false;
-    }
-    lists::in_use(place, channel.address, channel.mark, channel.counter)
+    channel.enabled && lists::in_use(place, channel.address, channel.mark, channel.counter)
 }
 
 // Whether one of the three has.
 #[tactic(auto, unfolding(crate::specs::InUse::in_use_of))]
-fn in_use(sound: Sound, place: u32) -> bool
-    ensures { result ≡ in_use_of sound place }
+fn in_use(sound: &Sound, place: u32) -> bool
+    ensures { result ≡ in_use_of sound.now place }
 {
-    if used_by(sound.channels[0], place) {
-        return true;
-    }
-    if used_by(sound.channels[1], place) {
-        return true;
-    }
-    used_by(sound.channels[2], place)
+    sound
+        .channels
+        .iter()
+        .any(|channel| used_by(*channel, place))
 }
 
 // The place of a handle's list; of a number that is no handle, 0.
-fn place_at(places: &[u32], handle: u32) -> u32
+fn place_at(places: &[u32; 64], handle: u32) -> u32
     ensures { result ≡ place_at places.now handle }
 {
-    let at = handle as usize;
-    if places.len() <= at {
-        return 0;
-    }
-    places[at]
+    places.get(handle as usize).copied().unwrap_or(0)
 }
 
 // Removes the list of a handle, unless a channel has it in use.
 pub fn remove(chip: Chip, places: &[u32; 64], handle: u32) -> Answered
     ensures { RemovesList chip places.now handle result }
 {
-    let playing = in_use(chip.sound, place_at(places, handle));
-    let told = lists::remove(chip.editing.lists, handle, playing);
-    Answered {
-        answer: told.answer,
-        chip: with_lists(chip, told.area),
-    }
+    let playing = in_use(&chip.sound, place_at(places, handle));
+    changed(chip, lists::remove(chip.editing.lists, handle, playing))
 }

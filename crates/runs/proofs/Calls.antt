@@ -13,9 +13,8 @@ use Rattle.editors.specs.declared.Editor.TheVariants.{Song, Picture}
 use Rattle.editors.specs.Table.{other}
 use Rattle.lock.proofs.Steps.{feeds}
 use Rattle.lists.specs.Area.{area_of}
-use Rattle.lists.specs.Place.{Places}
+use Rattle.lists.specs.Place.{Placed, Places}
 use Rattle.lists.specs.Remove.{without_list}
-use Rattle.lists.specs.declared.Placed.{Placed}
 use Rattle.lists.proofs.Only.{only, refused-keeps}
 use Rattle.lists.proofs.Some.{some}
 use Rattle.chip.specs.declared.Chip.{Chip}

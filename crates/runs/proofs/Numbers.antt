@@ -9,10 +9,9 @@ use Rattle.common.specs.Choice.{if, both}
 use Rattle.editors.specs.declared.Editor.{Editor}
 use Rattle.editors.specs.declared.Table.{Table}
 use Rattle.lists.specs.declared.Area.{Area}
-use Rattle.lists.specs.declared.Placed.{Placed}
 use Rattle.lists.specs.Area.{proper, standing, area_answer}
 use Rattle.lists.specs.Room.{place_at}
-use Rattle.lists.specs.Place.{Places, other_length, not_askable, all_placed, no_gap, placed}
+use Rattle.lists.specs.Place.{Placed, Places, other_length, not_askable, all_placed, no_gap, placed}
 use Rattle.lists.specs.Remove.{taken, remove_answer}
 use Rattle.lists.proofs.Some.{some}
 use Rattle.crtc.specs.Registers.{has_register}

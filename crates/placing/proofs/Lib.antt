@@ -1,2 +1,0 @@
--- What the proofs of the calls share.
-pub mod Laws
