@@ -4,32 +4,21 @@ use mathlib.Core.Bool.{true, false}
 use mathlib.Core.List.{List}
 use Prim.Native.Nat.{ℕ, zero, suc, ◌+◌, ◌*◌, ◌/◌, ◌%◌, ◌<◌, ◌≤◌}
 use native.Mathlib.Omega.{arith}
-use borrow.Author.Tests.{ltb-true, lt-ltb, le-ltb, ne_eqb}
+use borrow.Author.Tests.{ltb-true, lt-ltb, le-ltb}
 use lib.Dec.{ltb}
 use lib.IntN.{ℤ, pos, negsuc, nat_abs, ◌-ℤ◌}
 use lib.Signed.{lt_z}
 use lib.ListN.{get_or}
+use Rattle.std.specs.Prelude.{Some, None}
 use Rattle.common.specs.Choice.{if}
 use Rattle.picture.specs.declared.sprite.Sprite.{Sprite}
-use Rattle.picture.specs.SpriteLine.{scale_of, y_scale, x_scale, cell_at, pixel_at}
-use Rattle.overlay.specs.Overlay.{Magnification, divided, Cell, OnLine, pixel_on, Sized}
+use Rattle.picture.specs.SpriteLine.{y_scale, x_scale, cell_at, pixel_at}
+use Rattle.overlay.specs.Overlay.{Magnification, divided, Cell, OnLine, pixel_on}
 
--- any code but 0, 1 and 2 stands for 4
-pub from_3 : (code : ℕ) → (code ≡ 0 → ⊥) → (code ≡ 1 → ⊥) → (code ≡ 2 → ⊥) → 4 ≡ scale_of code
-from_3 zero f g h = absurd (f refl)
-from_3 (suc zero) f g h = absurd (g refl)
-from_3 (suc (suc zero)) f g h = absurd (h refl)
-from_3 (suc (suc (suc code))) f g h = refl
-
--- a code that is not off stands for 1, 2 or 4
-scales : (code : ℕ) → (scale_of code ≡ 0 → ⊥) → Magnification (scale_of code)
-scales zero h = absurd (h refl)
-scales (suc zero) h = record { four = λ f g. absurd (f refl) }
-scales (suc (suc zero)) h = record { four = λ f g. absurd (g refl) }
-scales (suc (suc (suc code))) h = record { four = λ f g. refl }
-
-pub magnified : {m : ℕ} (code : ℕ) → m ≡ scale_of code → (m ≡ 0 → ⊥) → Magnification m
-magnified code is h = rw is (scales code (rw is at h))
+-- 1, 2 and 4 are not 0
+pub on_some : (m : ℕ) → Magnification m → (m ≡ 0 → ⊥)
+on_some zero is e = omega (arith, is.four (λ f. omega arith) (λ f. omega arith))
+on_some (suc m) is e = omega arith
 
 -- divided by one of these is the quotient
 pub divided-is : (n m : ℕ) → Magnification m → divided n m ≡ n / m
@@ -52,34 +41,31 @@ cell_inside zero n f on h = absurd (on refl)
 cell_inside (suc m) n f on h = rw (lt-ltb (n / suc m) 16 h)
 
 -- the row that the code finds at a distance, by the magnification m that a code stands for
-module _ {m : ℕ} (code : ℕ) (is : m ≡ scale_of code) where
-  no_row : {d : ℤ} → ((f : ℕ → ℕ) → cell_at (scale_of code) d f ≡ 0) → Cell (scale_of code) d 16
-  no_row none = record { bound = omega arith; gives = none }
+no_row : {scale : ℕ} {d : ℤ} → ((f : ℕ → ℕ) → cell_at scale d f ≡ 0) → Cell scale d None
+no_row none = record { bound = tt; gives = none }
 
-  pub row-off : (d : ℤ) → m ≡ 0 → Cell (scale_of code) d 16
-  row-off d off = no_row (λ f. rw (← is, off))
+pub row-off : (scale : ℕ) (d : ℤ) → scale ≡ 0 → Cell scale d None
+row-off scale d off = no_row (λ f. rw off)
 
-  pub row_before : (d : ℤ) → lt_z d (pos 0) ≡ true → Cell (scale_of code) d 16
+module _ (scale : ℕ) where
+  pub row_before : (d : ℤ) → lt_z d (pos 0) ≡ true → Cell scale d None
   row_before (pos n) h = absurd (omega (arith, ltb-true n 0 h))
-  row_before (negsuc n) h = no_row (cell_before (scale_of code) n)
+  row_before (negsuc n) h = no_row (cell_before scale n)
 
-  module _ (on : m ≡ 0 → ⊥) where
-    quotient : (n : ℕ) {row : ℕ} → row ≡ divided n m → row ≡ n / scale_of code
-    quotient n at = at ∙ divided-is n m (magnified code is on) ∙ rw is
+  module _ {m : ℕ} (is : m ≡ scale) (on : Magnification m) where
+    quotient : (n : ℕ) {row : ℕ} → row ≡ divided n m → row ≡ n / scale
+    quotient n at = at ∙ divided-is n m on ∙ rw is
 
-    pub row-beyond : (d : ℤ) {row : ℕ} → lt_z d (pos 0) ≡ false → row ≡ divided (nat_abs d) m → 16 ≤ row → Cell (scale_of code) d 16
+    pub row-beyond : (d : ℤ) {row : ℕ} → lt_z d (pos 0) ≡ false → row ≡ divided (nat_abs d) m → 16 ≤ row → Cell scale d None
     row-beyond (negsuc n) h at past = let no : ◌≡◌ {A = ℕ} 0 1 = cc in absurd (omega arith)
-    row-beyond (pos n) h at past = no_row (λ f. cell_beyond (scale_of code) n f (rw (quotient n at) at past))
+    row-beyond (pos n) h at past = no_row (λ f. cell_beyond scale n f (rw (quotient n at) at past))
 
-    pub row_inside : (d : ℤ) {row : ℕ} → lt_z d (pos 0) ≡ false → row ≡ divided (nat_abs d) m → row < 16 → Cell (scale_of code) d row
+    pub row_inside : (d : ℤ) {row : ℕ} → lt_z d (pos 0) ≡ false → row ≡ divided (nat_abs d) m → row < 16 → Cell scale d (Some row)
     row_inside (negsuc n) h at near = let no : ◌≡◌ {A = ℕ} 0 1 = cc in absurd (omega arith)
     row_inside (pos n) {row} h at near =
         record {
-          bound = omega arith;
-          gives =
-              λ f.
-              rw (ne_eqb row 16 (λ e. omega arith), quotient n at)
-              (cell_inside (scale_of code) n f (rw is at on) (rw (quotient n at) at near));
+          bound = near;
+          gives = λ f. rw (quotient n at) (cell_inside scale n f (rw is at (on_some m on)) (rw (quotient n at) at near));
         }
 
 zero-all : (scale : ℕ) (d : ℤ) → cell_at scale d (λ n. 0) ≡ 0
@@ -88,41 +74,24 @@ zero-all (suc m) (pos d) = elim (ltb (d / suc m) 16) as (λ t. ◌≡◌ {A = �
 zero-all (suc m) (negsuc d) = refl
 
 -- a sprite on line y
-module _ (s : Sprite) (y : ℕ) where
-  abbrev row_of : List ℕ → ℕ → ℕ → ℕ → ℕ
-  row_of store n x r = cell_at (x_scale s) (pos x -ℤ s.x) (λ k. get_or store (n * 256 + r * 16 + k) 0 % 16)
+module _ (s : Sprite) (y n : ℕ) where
+  abbrev row_of : List ℕ → ℕ → ℕ → ℕ
+  row_of store x r = cell_at (x_scale s) (pos x -ℤ s.x) (λ k. get_or store (n * 256 + r * 16 + k) 0 % 16)
 
-  pub none-across : x_scale s ≡ 0 → OnLine s y 16
+  pub none-across : x_scale s ≡ 0 → OnLine s y n None
   unfolding pixel_at
-  none-across off =
-      record {
-        bound = omega arith;
-        none = λ e store n x. rw off (zero-all (y_scale s) (pos y -ℤ s.y));
-        across = λ f. absurd (f refl);
-        down = λ f. absurd (f refl);
-      }
+  none-across off = λ store x. rw off (zero-all (y_scale s) (pos y -ℤ s.y))
 
-  pub none-off : s.magnification ≡ 0 → OnLine s y 16
-  none-off off = none-across (rw off)
-
-  pub on_line_lem : {row : ℕ} → Cell (y_scale s) (pos y -ℤ s.y) row → Magnification (x_scale s) → OnLine s y row
+  pub none-down : Cell (y_scale s) (pos y -ℤ s.y) None → OnLine s y n None
   unfolding pixel_at
-  on_line_lem cell is =
-      record {
-        bound = cell.bound;
-        none = λ e store n x. rw e at (cell.gives (row_of store n x));
-        across = λ f. is;
-        down = λ f. cell;
-      }
+  none-down cell = λ store x. cell.gives (row_of store x)
 
-  -- as the line keeps it, it shows what it has there
+  -- as the line keeps it, it has its size, and shows what it has there
   pub its-row :
-      {row across : ℕ} {z : ℤ} (n : ℕ) → OnLine s y row → (row ≡ 16 → ⊥) → across ≡ x_scale s → z ≡ s.x → (store : List ℕ) (x : ℕ) →
-      pixel_on store (record { x = z; magnification = across; pixels = n * 256 + row * 16 }) x ≡ pixel_at store n s y x
+      {row across : ℕ} {z : ℤ} → Cell (y_scale s) (pos y -ℤ s.y) (Some row) → across ≡ x_scale s → Magnification across → z ≡ s.x → n < 16 →
+      OnLine s y n (Some (record { x = z; magnification = across; pixels = n * 256 + row * 16 }))
   unfolding pixel_on pixel_at
-  its-row {row} n on shown is-across at store x = rw ((on.down shown).gives (row_of store n x), ne_eqb row 16 shown, is-across, at)
-
-  pub its-size :
-      {row n across : ℕ} {z : ℤ} → OnLine s y row → (row ≡ 16 → ⊥) → across ≡ x_scale s → n < 16 →
-      Sized (record { x = z; magnification = across; pixels = n * 256 + row * 16 })
-  its-size on shown is-across h = record { magnified = rw is-across (on.across shown); stored = omega (arith, on.bound, shown) }
+  its-row {row} cell is on at h = (
+    record { magnified = on; stored = omega (arith, cell.bound) },
+    λ store x. rw (cell.gives (row_of store x), is, at),
+  )

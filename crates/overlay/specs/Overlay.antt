@@ -1,10 +1,11 @@
 -- 01, "Drawing the current line": the pixel of the lowest-numbered sprite. The second half serves only the code, which keeps the
 -- sprites that a line can show in a list of its own.
-use Rattle.std.specs.Prelude.{◌≡◌, List, true, false, ℕ, zero, suc, ◌+◌, ◌/◌, ◌%◌, ◌<◌, ◌≤◌, eqb, ℤ, pos, ◌-ℤ◌, get_or}
+use Rattle.std.specs.Prelude.{◌≡◌, List, true, false, ℕ, zero, suc, ◌+◌, ◌/◌, ◌%◌, ◌<◌, ◌≤◌, eqb, ℤ, pos, ◌-ℤ◌, get_or, Option, Some, None, IfSome}
+use Rattle.std.specs.Option.{option_map_or}
 use Rattle.std.specs.Int.Signed.{lt_z}
 use Rattle.common.specs.Choice.{if}
 use Rattle.picture.specs.Sprites.{off_sprite}
-use Rattle.picture.specs.SpriteLine.{x_scale, y_scale, cell_at, pixel_at}
+use Rattle.picture.specs.SpriteLine.{cell_at, pixel_at}
 use Rattle.picture.specs.declared.sprite.Sprite.{Sprite}
 use Rattle.overlay.specs.declared.LineSprite.{LineSprite}
 use Rattle.overlay.specs.declared.LineSprites.{LineSprites}
@@ -28,18 +29,10 @@ pub record Magnification (m : ℕ) : Type 0 where
 abbrev pub divided : ℕ → ℕ → ℕ
 divided n m = if (eqb m 1) n (if (eqb m 2) (n / 2) (n / 4))
 
--- the row at a distance, or 16 for none: what a function gives for it
-pub record Cell (scale : ℕ) (d : ℤ) (r : ℕ) : Type 0 where
-  pub bound : r ≤ 16
-  pub gives : (f : ℕ → ℕ) → cell_at scale d f ≡ if (eqb r 16) 0 (f r)
-
--- the row of a sprite that line y shows: with 16 it shows nothing there, else it is magnified across, and the row is the one at
--- the distance
-pub record OnLine (s : Sprite) (y r : ℕ) : Type 0 where
-  pub bound : r ≤ 16
-  pub none : r ≡ 16 → (store : List ℕ) (n x : ℕ) → pixel_at store n s y x ≡ 0
-  pub across : (r ≡ 16 → ⊥) → Magnification (x_scale s)
-  pub down : (r ≡ 16 → ⊥) → Cell (y_scale s) (pos y -ℤ s.y) r
+-- the row at a distance, or none: what a function gives for it
+pub record Cell (scale : ℕ) (d : ℤ) (r : Option ℕ) : Type 0 where
+  pub bound : IfSome r (λ row. row < 16)
+  pub gives : (f : ℕ → ℕ) → cell_at scale d f ≡ option_map_or f r 0
 
 -- the pixel at x of a sprite on a line
 unfoldable pub pixel_on : List ℕ → LineSprite → ℕ → ℕ
@@ -67,6 +60,12 @@ pub record Ends (z : ℤ) (span right : ℕ) : Type 0 where
 pub record Sized (e : LineSprite) : Type 0 where
   pub magnified : Magnification e.magnification
   pub stored : e.pixels ≤ 4080
+
+-- the row of sprite n that line y shows, as the code keeps it: with none the sprite shows nothing there, else the row shows what it has
+-- there
+abbrev pub OnLine : Sprite → ℕ → ℕ → Option LineSprite → Type 0
+OnLine s y n None = (store : List ℕ) (x : ℕ) → pixel_at store n s y x ≡ 0
+OnLine s y n (Some e) = Sized e × ((store : List ℕ) (x : ℕ) → pixel_on store e x ≡ pixel_at store n s y x)
 
 -- so many of a list of sixteen are kept
 pub record Kept (r : LineSprites) : Type 0 where
