@@ -7,28 +7,18 @@ ghost use Rattle.registers.specs.Owners.{owns, owns_channel};
 use crate::address::Register;
 use editors::{Editor, Table};
 
+// Whether thing n is the editor's, by the owners of its kind.
+fn owns_bit(table: Table, editor: Editor, owners: u32, n: usize) -> bool
+    ensures { result ≡ mine table editor (bit n owners) }
+{
+    editors::mine(table, editor, common::bit_at(owners, n))
+}
+
 // Whether channel n is the editor's.
 pub fn owns_channel(table: Table, editor: Editor, n: usize) -> bool
     ensures { result ≡ owns_channel table editor n }
 {
-    let picture = common::bit_at(table.channels as u32, n);
-    editors::mine(table, editor, picture)
-}
-
-// Whether sprite n is the editor's.
-fn owns_sprite(table: Table, editor: Editor, n: usize) -> bool
-    ensures { result ≡ mine table editor (bit n table.sprites) }
-{
-    let picture = common::bit_at(table.sprites as u32, n);
-    editors::mine(table, editor, picture)
-}
-
-// Whether palette entry n is the editor's.
-fn owns_entry(table: Table, editor: Editor, n: usize) -> bool
-    ensures { result ≡ mine table editor (bit n table.palette) }
-{
-    let picture = common::bit_at(table.palette, n);
-    editors::mine(table, editor, picture)
+    owns_bit(table, editor, u32::from(table.channels), n)
 }
 
 // Whether a register is the editor's.
@@ -36,15 +26,12 @@ pub fn owns(table: Table, editor: Editor, register: Register) -> bool
     ensures { result ≡ owns table editor register }
 {
     match register {
-        Register::Pixel(i) => owns_sprite(table, editor, i / 256),
-        Register::Sprite(n, _) => owns_sprite(table, editor, n),
-        Register::Palette(i) => owns_entry(table, editor, i / 2),
+        Register::Pixel(i) => owns_bit(table, editor, u32::from(table.sprites), i / 256),
+        Register::Sprite(n, _) => owns_bit(table, editor, u32::from(table.sprites), n),
+        Register::Palette(i) => owns_bit(table, editor, table.palette, i / 2),
         Register::Video(_) => editors::mine(table, editor, true),
         Register::Ivr => !table.held,
-        Register::Converter => false,
         Register::Channel(n, _) => owns_channel(table, editor, n),
-        Register::Dcsr => false,
-        Register::Status => false,
-        Register::Empty => false,
+        Register::Converter | Register::Dcsr | Register::Status | Register::Empty => false,
     }
 }
