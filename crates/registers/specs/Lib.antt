@@ -2,5 +2,3 @@
 pub mod Address
 pub mod Owners
 pub mod Registers
--- for the code's own parts only, cited by no public promise
-pub mod Flags
