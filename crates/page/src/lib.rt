@@ -10,7 +10,7 @@ ghost use Rattle.page.specs.declared.Edit.TheVariants.{Write};
 ghost use Rattle.page.specs.Parts.{refusal, back_change, KeepsEntry, Changes, Edits};
 
 use chip::{Answered, Chip};
-use common::answer::{DONE, NOT_MAPPED, NOTHING_TO_UNDO, WRONG_LENGTH};
+use common::answer::{DONE, NOT_MAPPED, NOTHING_TO_UNDO, WRONG_LENGTH, answer_number};
 use common::size::STORE;
 use editors::Editor;
 use registers::address::Register;
@@ -70,7 +70,7 @@ fn write_answer(chip: Chip, editor: Editor, size: usize, address: u16, register:
     if answer != DONE {
         return answer;
     }
-    registers::writing::register_answer(chip.editing.table, editor, register)
+    answer_number(registers::writing::register_answer(chip.editing.table, editor, register))
 }
 
 // The state of the record after a served write to this register, whose entry is given; one to DCSR is not kept.

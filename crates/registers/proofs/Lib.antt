@@ -1,4 +1,3 @@
 -- Laws of the registers for the crates above.
 pub mod AddressLaws
 pub mod ChannelWrites
-pub mod Store

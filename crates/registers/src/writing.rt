@@ -1,93 +1,71 @@
 // What a byte written to a register does.
 ghost use Rattle.std.specs.Prelude.{false, ◌≡◌};
 ghost use Rattle.common.specs.Choice.{if};
+ghost use Rattle.common.specs.Refusals.{answer_number};
 ghost use Rattle.sound.specs.Channels.{with_flags};
 ghost use Rattle.registers.specs.Registers.{owner_answer, register_answer, video_written, channel_written, channels_written, dcsr_written, store_put};
 
 use crate::address::{ChannelRegister, Register, VideoRegister};
 use crate::owners;
-use common::answer::{CONVERTER_THERE, DONE, NOT_YOURS, NOTHING_THERE};
+use common::answer::Refusal;
 use crtc::Video;
 use editors::{Editor, Table};
 use sound::{Channel, Sound};
+use std::array;
 
 // What a write to a register that keeps contents answers.
-fn owner_answer(owned: bool) -> u8
-    ensures { result ≡ owner_answer owned }
+fn owner_answer(owned: bool) -> Result<(), Refusal>
+    ensures { answer_number result ≡ owner_answer owned }
 {
     if owned {
-        return DONE;
+        Ok(())
+    } else {
+        Err(Refusal::NotYours)
     }
-    NOT_YOURS
 }
 
 // What an editor's write to the register answers.
-pub fn register_answer(table: Table, editor: Editor, register: Register) -> u8
-    ensures { result ≡ register_answer table editor register }
+pub fn register_answer(table: Table, editor: Editor, register: Register) -> Result<(), Refusal>
+    ensures { answer_number result ≡ register_answer table editor register }
 {
-    let owned = owners::owns(table, editor, register);
     match register {
-        Register::Pixel(_) => owner_answer(owned),
-        Register::Sprite(_, _) => owner_answer(owned),
-        Register::Palette(_) => owner_answer(owned),
-        Register::Video(_) => owner_answer(owned),
-        Register::Ivr => owner_answer(owned),
-        Register::Converter => CONVERTER_THERE,
-        Register::Channel(_, _) => owner_answer(owned),
-        Register::Dcsr => DONE,
-        Register::Status => NOTHING_THERE,
-        Register::Empty => NOTHING_THERE,
+        Register::Pixel(_)
+        | Register::Sprite(_, _)
+        | Register::Palette(_)
+        | Register::Video(_)
+        | Register::Ivr
+        | Register::Channel(_, _) => owner_answer(owners::owns(table, editor, register)),
+        Register::Converter => Err(Refusal::ConverterThere),
+        Register::Dcsr => Ok(()),
+        Register::Status | Register::Empty => Err(Refusal::NothingThere),
     }
 }
 
 // PRI, split and SSCR with one of them written.
-pub fn video_written(video: Video, which: VideoRegister, byte: u8) -> Video
+pub fn video_written(mut video: Video, which: VideoRegister, byte: u8) -> Video
     ensures { result ≡ video_written video which byte }
 {
-    let mut v = video;
     match which {
-        VideoRegister::Pri => {
-            v.pri = byte;
-            v
-        }
-        VideoRegister::SplitLine => {
-            v.split_line = byte;
-            v
-        }
-        VideoRegister::SplitHigh => {
-            v.split_high = byte % 64;
-            v
-        }
-        VideoRegister::SplitLow => {
-            v.split_low = byte;
-            v
-        }
-        VideoRegister::Sscr => {
-            v.sscr = byte;
-            v
-        }
+        VideoRegister::Pri => video.pri = byte,
+        VideoRegister::SplitLine => video.split_line = byte,
+        VideoRegister::SplitHigh => video.split_high = byte % 64,
+        VideoRegister::SplitLow => video.split_low = byte,
+        VideoRegister::Sscr => video.sscr = byte,
     }
+    video
 }
 
 // A channel with its start address or prescale written.
-fn channel_written(channel: Channel, which: ChannelRegister, byte: u8) -> Channel
+fn channel_written(mut channel: Channel, which: ChannelRegister, byte: u8) -> Channel
     ensures { result ≡ channel_written channel which byte }
 {
-    let mut c = channel;
+    let [low, high] = channel.address.to_le_bytes();
     match which {
-        ChannelRegister::StartLow => {
-            c.address = c.address / 256 * 256 + byte as u16 / 2 * 2;
-            c
-        }
-        ChannelRegister::StartHigh => {
-            c.address = byte as u16 * 256 + c.address % 256;
-            c
-        }
-        ChannelRegister::Prescale => {
-            c.prescale = byte;
-            c
-        }
+        ChannelRegister::StartLow => channel.address = u16::from_le_bytes([byte / 2 * 2, high]),
+        ChannelRegister::StartHigh => channel.address = u16::from_le_bytes([low, byte]),
+        ChannelRegister::Prescale => channel.prescale = byte,
     }
+    channel
 }
 
 // A channel's enable and interrupt after a DCSR write, by its own two bits; one that is not the editor's stays.
@@ -97,24 +75,21 @@ fn control_written(channel: Channel, owned: bool, enable: bool, clear: bool) -> 
     if !owned {
         return channel;
     }
-    let mut c = channel;
-    c.enabled = enable;
-    if !clear {
-        return c;
+    Channel {
+        enabled: enable,
+        interrupt: !clear & channel.interrupt,
+        ..channel
     }
-    c.interrupt = false;
-    c
 }
 
 // The sound state with a channel's start address or prescale written; there are 3 channels.
 pub fn channels_written(mut sound: Sound, n: usize, which: ChannelRegister, byte: u8) -> Sound
     ensures { result ≡ record { channels = channels_written sound.channels n which byte; psg = sound.psg } }
 {
-    if 3 <= n {
-        return sound;
+    // by index, since a proof knows no element that a slice's get_mut lent
+    if n < sound.channels.len() {
+        sound.channels[n] = channel_written(sound.channels[n], which, byte);
     }
-    let channel = sound.channels[n];
-    sound.channels[n] = channel_written(channel, which, byte);
     sound
 }
 
@@ -123,14 +98,13 @@ pub fn dcsr_written(mut sound: Sound, table: Table, editor: Editor, byte: u8) ->
     ensures { result ≡ record { channels = dcsr_written table editor sound.channels byte; psg = sound.psg } }
 {
     let channels = sound.channels;
-    let first = owners::owns_channel(table, editor, 0);
-    let second = owners::owns_channel(table, editor, 1);
-    let third = owners::owns_channel(table, editor, 2);
-    let zero = control_written(channels[0], first, byte % 2 == 1, byte / 64 % 2 == 1);
-    let one = control_written(channels[1], second, byte / 2 % 2 == 1, byte / 32 % 2 == 1);
-    let two = control_written(channels[2], third, byte / 4 % 2 == 1, byte / 16 % 2 == 1);
-    let written = [zero, one, two];
-    sound.channels = written;
+    let byte = u32::from(byte);
+    sound.channels = array::from_fn(|n| {
+        let owned = owners::owns_channel(table, editor, n);
+        let enable = common::bit_at(byte, n);
+        let clear = common::bit_at(byte, 6 - n);
+        control_written(channels[n], owned, enable, clear)
+    });
     sound
 }
 
@@ -138,9 +112,10 @@ pub fn dcsr_written(mut sound: Sound, table: Table, editor: Editor, byte: u8) ->
 pub fn store_put(store: &mut [u8], register: Register, byte: u8)
     ensures { store.new ≡ store_put store.old register byte }
 {
-    if let Register::Pixel(i) = register {
-        if i < store.len() {
-            store[i] = byte;
-        }
+    if let Register::Pixel(i) = register
+        && i < store.len()
+    {
+        // by index too
+        store[i] = byte;
     }
 }

@@ -9,4 +9,4 @@ returns-then-answer-ne-DONE c =
 
 pub returns : goal.returns
 returns c =
-    c.register_answer.ensures ∙ sym (rest_decides _ _ _ _ (sym c.read_answer-answer.ensures ∙ c.if-answer-ne-DONE.false))
+    c.answer_number.ensures ∙ c.register_answer.ensures ∙ sym (rest_decides _ _ _ _ (sym c.read_answer-answer.ensures ∙ c.if-answer-ne-DONE.false))
