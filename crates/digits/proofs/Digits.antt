@@ -1,8 +1,8 @@
 -- The digits of a number in a base: their characters, and how many there are.
 use mathlib.Core.Path.{◌≡◌, refl, ◌∙◌}
 use mathlib.Core.List.{◌++◌, append_assoc, append-nil}
-use Prim.Native.Nat.{ℕ, zero, suc, ◌+◌, ◌/◌, ◌%◌, ◌^◌, ◌≤◌, ◌<◌}
-use native.Mathlib.Nat.{add-zero, add-suc, pow-zero, pow-succ', mod-lt, mod-eq_of_lt, div-div-eq-div-mul, div-one}
+use Prim.Native.Nat.{ℕ, zero, suc, ◌+◌, ◌/◌, ◌^◌, ◌≤◌, ◌<◌}
+use native.Mathlib.Nat.{add-zero, add-suc, pow-zero, pow-succ', div-div-eq-div-mul, div-one}
 use native.Mathlib.Omega.{arith}
 use lib.ListN.{length, length-append}
 use borrow.Author.Tests.{lt-ltb, le-ltb}
@@ -13,12 +13,6 @@ use Rattle.digits.specs.Digits.{glyph, digits, digit_count, decimal}
 pub glyph-above : (d : ℕ) → 48 ≤ glyph d
 unfolding glyph
 glyph-above d = either_side d 10 (λ a. simp (lt-ltb d 10 a) (omega arith)) (λ b. simp (le-ltb d 10 b) (omega arith))
-
--- a digit in a base up to 16 is below 16
-pub last-digit : (n base : ℕ) → 0 < base → base ≤ 16 → glyph (n % base % 16) ≡ glyph (n % base)
-last-digit n base p q =
-    let small : n % base < 16 = omega (arith, mod-lt n p) in
-    rw (mod-eq_of_lt small)
 
 module _ (base : ℕ) where
   -- there are as many as asked for

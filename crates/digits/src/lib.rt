@@ -10,11 +10,10 @@ ghost use Rattle.digits.specs.Digits.{glyph, decimal};
 pub fn character(n: u16) -> u8
     ensures { result ≡ glyph (n % 16) }
 {
-    let d = n % 16;
-    if d < 10 {
-        return (48 + d) as u8;
+    match (n % 16) as u8 {
+        d @ 0..=9 => b'0' + d,
+        d => b'A' + (d - 10),
     }
-    (55 + d) as u8
 }
 
 // How many digits a number has in decimal, four at most.
@@ -22,14 +21,10 @@ pub fn character(n: u16) -> u8
 pub fn count(n: u16) -> usize
     ensures { (result ≡ length (decimal n)) × (result ≤ 4) }
 {
-    if n < 10 {
-        return 1;
+    match n {
+        0..=9 => 1,
+        10..=99 => 2,
+        100..=999 => 3,
+        _ => 4,
     }
-    if n < 100 {
-        return 2;
-    }
-    if n < 1000 {
-        return 3;
-    }
-    4
 }
