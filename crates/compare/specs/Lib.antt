@@ -1,2 +1,2 @@
--- The code's own: a part of a line at a place of a text.
-pub mod Parts
+-- The code's own: a text behind the bytes with which it begins.
+pub mod Rest

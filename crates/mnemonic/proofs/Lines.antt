@@ -6,8 +6,7 @@ use Prim.Native.Nat.{ℕ, zero, suc, ◌+◌, ◌*◌, ◌/◌, ◌%◌, ◌≤�
 use native.Mathlib.Omega.{arith}
 use lib.Dec.{eqb}
 use lib.ListN.{length, length-append}
-use borrow.Author.Tests.{eqb-true, eqb-false, ne_eqb}
-use Rattle.common.specs.Choice.{if}
+use borrow.Author.Tests.{eqb-true, ne_eqb}
 use Rattle.words.specs.Words.{kind_of, low12}
 use Rattle.words.specs.declared.WordKind.TheVariants.{Load, Pause, Repeat, Control}
 use Rattle.common.proofs.Order.{either_side}
@@ -83,21 +82,6 @@ module _ (w : ℕ) (e : w / 4096 ≡ 4) where
   unnamed_line a0 a1 b0 b1 c0 c1 d0 d1 =
       stray_line w e (λ h. eight (λ v. w ≡ v → ⊥) w e h a0 a1 b0 b1 c0 c1 d0 d1 refl)
 
-  -- by all of the word but bit 0
-  pub pairs_unnamed :
-      (w / 2 ≡ 0x2000 → ⊥) → (w / 2 ≡ 0x2008 → ⊥) → (w / 2 ≡ 0x2010 → ⊥) → (w / 2 ≡ 0x2018 → ⊥) → text_line w ≡ word_line w
-  pairs_unnamed a b c d =
-      unnamed_line
-      (λ q. a (rw q)) (λ q. a (rw q)) (λ q. b (rw q)) (λ q. b (rw q)) (λ q. c (rw q)) (λ q. c (rw q)) (λ q. d (rw q)) (λ q. d (rw q))
-
--- a word's line by its bit 0, LOOP's
-pub looped-line : (w v : ℕ) → w / 2 ≡ v → text_line w ≡ if (eqb (w % 2) 1) (text_line (v * 2 + 1)) (text_line (v * 2))
-looped-line w v e = by_bit (eqb (w % 2) 1) refl
-  where
-    by_bit : (t : Bool) → eqb (w % 2) 1 ≡ t → text_line w ≡ if t (text_line (v * 2 + 1)) (text_line (v * 2))
-    by_bit true h = let b = eqb-true (w % 2) 1 h in ap text_line (omega arith)
-    by_bit false h = let b = eqb-false (w % 2) 1 h in ap text_line (omega arith)
-
 -- what holds of the text of each form, and of the eight names, holds of every word's
 pub by_form :
     (P : ℕ → List ℕ → Type 0) (w : ℕ) →
@@ -146,3 +130,8 @@ longest w =
 pub longest-is : length (text_line 0x4031) ≡ longest_line
 unfolding text_line kind_of
 longest-is = refl
+
+-- the line of a word by its code, and its length
+pub ruleset forms = (load_line, pause-line, repeat-line, other-line)
+
+pub ruleset lengths = (load-length, pause-length, repeat-length, other-line)

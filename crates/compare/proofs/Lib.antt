@@ -1,2 +1,0 @@
--- Laws of a part that a text holds at a place.
-pub mod Holding
