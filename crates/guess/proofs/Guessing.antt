@@ -2,11 +2,11 @@
 use mathlib.Core.Path.{◌≡◌, refl, ap, sym, ◌∙◌}
 use mathlib.Core.Bool.{true, false}
 use mathlib.Core.List.{List, [], ◌∷◌, ◌++◌, append_assoc}
-use Prim.Native.Nat.{ℕ, zero, suc, ◌+◌, ◌/◌, ◌%◌, ◌^◌, ◌≤◌, ◌<◌}
+use Prim.Native.Nat.{ℕ, zero, suc, ◌+◌, ◌/◌, ◌%◌, ◌^◌, ◌<◌}
 use native.Mathlib.Omega.{arith}
 use lib.Dec.{ltb}
 use lib.ListN.{length, drop, get_or, replicate}
-use lib.Seq.{sets, sets-eq, drop-append_seam, get_or-drop}
+use lib.Seq.{drop-append_seam, get_or-drop}
 use borrow.Author.Tests.{lt-ltb, le-ltb}
 use Rattle.words.specs.Words.{low12}
 use Rattle.common.proofs.Order.{either_side}
@@ -50,10 +50,23 @@ guessed w r h =
     (omega (arith, read 16 3 w (lf ∷ r) (omega arith) (omega arith) h))
     refl refl refl refl refl refl refl refl
 
--- only the bytes of a text are looked at
-pub same_guess : (s t : List ℕ) → ((i : ℕ) → get_or s i 0 ≡ get_or t i 0) → guess_of s ≡ guess_of t
+-- only the bytes of a longest line are looked at
+pub same_guess : (s t : List ℕ) → ((i : ℕ) → i < longest_line → get_or s i 0 ≡ get_or t i 0) → guess_of s ≡ guess_of t
 unfolding guess_of guess_load decimal_of
-same_guess s t h = simp (get_or-drop, h)
+same_guess s t h =
+    simp (
+      get_or-drop,
+      h 0 (omega arith),
+      h 2 (omega arith),
+      h 3 (omega arith),
+      h 4 (omega arith),
+      h 5 (omega arith),
+      h 6 (omega arith),
+      h 7 (omega arith),
+      h 8 (omega arith),
+      h 9 (omega arith),
+      h 10 (omega arith),
+    )
 
 -- a short text with zeros after it has the same bytes
 zeros : (n i : ℕ) → ◌≡◌ {A = ℕ} (get_or (replicate n 0) i 0) 0
@@ -66,11 +79,10 @@ zero_end [] t i z = z i
 zero_end (x ∷ s) t zero z = refl
 zero_end (x ∷ s) t (suc i) z = zero_end s t i z
 
-pub padded : (s : List ℕ) (i : ℕ) → length s ≤ longest_line → get_or (sets (replicate longest_line 0) 0 s) i 0 ≡ get_or s i 0
-padded s i h =
+pub padded : (s : List ℕ) (n i : ℕ) → get_or (s ++ drop n (replicate longest_line 0)) i 0 ≡ get_or s i 0
+padded s n i =
     let room : List ℕ = replicate longest_line 0 in
-    let e : sets room 0 s ≡ s ++ drop (0 + length s) room = sets-eq s room 0 (omega arith) in
-    rw e (zero_end s (drop (0 + length s) room) i (λ j. get_or-drop (0 + length s) room j 0 ∙ zeros longest_line (0 + length s + j)))
+    zero_end s (drop n room) i (λ j. get_or-drop n room j 0 ∙ zeros longest_line (n + j))
 
 -- texts that are the same and begin with the lines of words begin with the same word's; what follows is the same too
 module _ (w v : ℕ) (r s : List ℕ) (h : w < 65536) (g : v < 65536) (e : text_line w ++ r ≡ text_line v ++ s) where

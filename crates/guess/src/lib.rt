@@ -13,10 +13,10 @@ use mnemonic::LONGEST_LINE;
 pub fn guess(text: &[u8]) -> u16
     ensures { result ≡ guess_of text.now }
 {
-    if text.len() < LONGEST_LINE {
-        let mut line = [0u8; LONGEST_LINE];
-        common::put(&mut line, 0, text);
-        return scan::word(&line);
+    if let Some(line) = text.first_chunk() {
+        return scan::word(line);
     }
-    scan::word(text)
+    let mut line = [0u8; LONGEST_LINE];
+    line[..text.len()].copy_from_slice(text);
+    scan::word(&line)
 }

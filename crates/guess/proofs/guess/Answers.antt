@@ -1,10 +1,14 @@
--- A short text with zeros after it has the same guess.
-use Rattle.std.proofs.Common.{◌∙◌, arith}
-use Rattle.common.proofs.Storing.{had-room}
+-- The guess looks at the bytes of a longest line alone; a short text with zeros after it has the same bytes.
+use Rattle.std.proofs.Common.{◌∙◌, get_or-take}
 use Rattle.guess.proofs.Guessing.{same_guess, padded}
 use Rattle.guess.proofs.guess.Goals as goal
 
-pub returns-then-text-lt-LONGEST_LINE : goal.returns-then-text-lt-LONGEST_LINE
-returns-then-text-lt-LONGEST_LINE c =
-    let stored = had-room c.put.ensures (omega arith) in
-    c.word.ensures ∙ same_guess _ c.args.text.now (λ i. rw stored.stored (padded c.args.text.now i (omega arith)))
+pub returns-in-Some : goal.returns-in-Some
+returns-in-Some c =
+    c.word.ensures
+    ∙ same_guess _ c.args.text.now (λ i h. rw c.in-Some.ensures.cases.same (get_or-take _ c.args.text.now i 0 h))
+
+pub returns : goal.returns
+returns c =
+    c.word-2.ensures
+    ∙ same_guess _ c.args.text.now (λ i h. rw c.copy_from_slice.ensures.after (padded c.args.text.now _ i))
