@@ -26,7 +26,7 @@ module _ (ram : List ℕ) (c : Channel) (psg : List ℕ) (turn : Turn) (is : tur
   mark = rw is (mark-stays ram c)
 
   still-heard : heard turn.channel psg turn.did ≡ heard c psg turn.did
-  still-heard = rw mark
+  still-heard = search mark
 
 -- the loop's variables as one line
 abbrev pub line_of : Sound → List Entry → ℕ → SoundLine

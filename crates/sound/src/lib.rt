@@ -2,7 +2,7 @@
 
 #![tactic(auto)]
 
-ghost use Rattle.std.specs.Prelude.{◌≡◌};
+ghost use Rattle.std.specs.Prelude.{true, ◌≡◌};
 ghost use Rattle.sound.specs.Channels.{word_at, pause_counted, fetched, looped, paused, repeated, controlled, executed, turn_of};
 ghost use Rattle.sound.specs.Line.{access_by, access_of, heard, disturbance, own_cycles, sound_line};
 
@@ -139,12 +139,13 @@ pub fn word_at(ram: &[u8], address: u16) -> u16
 }
 
 impl Channel {
-    // One more line of the pause, if there is one and the channel is enabled.
+    // One more line of the pause, if there is one.
     #[tactic(auto, unfolding(crate::specs::Channels::pause_counted))]
     fn pause_counted(self) -> Channel
-        ensures { result ≡ pause_counted self }
+        requires { self.enabled ≡ true }
+        ensures { (result ≡ pause_counted self) × (result.enabled ≡ true) }
     {
-        if !self.enabled || self.pause == 0 {
+        if self.pause == 0 {
             return self;
         }
         if self.count < self.prescale {
@@ -236,12 +237,18 @@ impl Channel {
     }
 
     // One line of this channel: counting first, then, if it is active, one word.
-    #[tactic(auto, unfolding(crate::specs::Channels::turn_of, crate::specs::Channels::active))]
+    #[tactic(auto, unfolding(crate::specs::Channels::turn_of, crate::specs::Channels::active, crate::specs::Channels::pause_counted))]
     pub fn line(self, ram: &[u8]) -> Turn
         ensures { result ≡ turn_of ram.now self }
     {
+        if !self.enabled {
+            return Turn {
+                channel: self,
+                did: Did::SatOut,
+            };
+        }
         let c = self.pause_counted();
-        if !c.enabled || c.pause != 0 {
+        if c.pause != 0 {
             return Turn {
                 channel: c,
                 did: Did::SatOut,
@@ -284,26 +291,23 @@ impl Turn {
     }
 }
 
-// One line of all three channels, worked through in order.
-pub fn sound_line(sound: Sound, ram: &[u8], accesses: Accesses) -> SoundLine
+// One line of all three channels, worked through in order. By number: over `channels.iter_mut()` of a state that is taken apart for it, a line
+// takes 50 instructions more.
+pub fn sound_line(mut sound: Sound, ram: &[u8], accesses: Accesses) -> SoundLine
     ensures { result ≡ sound_line ram.now accesses sound }
 {
-    let Sound {
-        mut channels,
-        mut psg,
-    } = sound;
     let mut entries = [Entry { did: Did::SatOut }; 3];
     let mut cycles = 1;
-    for (n, channel) in channels.iter_mut().enumerate() {
-        let turn = channel.line(ram);
+    for n in 0..3 {
+        let turn = sound.channels[n].line(ram);
         let entry = Entry { did: turn.did };
-        *channel = turn.channel;
+        sound.channels[n] = turn.channel;
         entries[n] = entry;
         cycles += entry.own_cycles(accesses.of(n));
-        turn.heard(&mut psg);
+        turn.heard(&mut sound.psg);
     }
     SoundLine {
-        sound: Sound { channels, psg },
+        sound,
         report: Report { cycles, entries },
     }
 }

@@ -7,12 +7,12 @@ use Rattle.sound.proofs.sound_line.Goals as goal
 pub overflow_add-cycles : goal.overflow_add-cycles
 overflow_add-cycles c =
     let l = c.loop-n in
-    record { fits = room _ _ _ l.n _ _ _ l.entries c.of.result c.line-turn.result.did l.invariant (search rules) c.own_cycles-cycles.ensures }
+    record { fits = room _ _ _ l.n _ _ l.sound l.entries c.of.result c.line-turn.result.did l.invariant (search rules) c.own_cycles-cycles.ensures }
 
 pub loop-n-preserved : goal.loop-n-preserved
 loop-n-preserved c =
     let l = c.loop-n in
-    one_more _ _ _ l.n _ _ _ l.entries _ (channel_of l.channel-items l.n) c.line-turn.result _ l.invariant refl
+    one_more _ _ _ l.n _ _ l.sound l.entries _ (channel_of l.sound.channels l.n) c.line-turn.result _ l.invariant refl
     c.line-turn.ensures c.of.ensures c.own_cycles-cycles.ensures c.heard.ensures
 
 pub returns : goal.returns

@@ -5,4 +5,4 @@ use Rattle.sound.proofs.sound_line.Given as goal
 
 abbrev pub invariant-loop-n : goal.invariant-loop-n
 invariant-loop-n l =
-    line_of (record { channels = l.channel-items; psg = l.psg }) l.entries l.cycles ≡ worked l.fn.ram l.fn.accesses l.fn.sound l.n
+    line_of l.sound l.entries l.cycles ≡ worked l.fn.ram l.fn.accesses l.fn.sound l.n
