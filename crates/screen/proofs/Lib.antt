@@ -1,4 +1,3 @@
--- What the proofs share: the table's rule, values in place, and pairs of values.
+-- What the proofs share: the table's rule, and pairs of values.
 pub mod Table
-pub mod Storing
 pub mod Pairs

@@ -8,9 +8,8 @@ use native.Mathlib.Omega.{arith}
 use lib.Dec.{T, eqb, eqb→eq}
 use lib.ListN.{length, get_or}
 use Rattle.common.specs.Choice.{both, of_bool}
-use Rattle.picture.specs.Pens.{width_of, pen, pen_at}
+use Rattle.picture.specs.Pens.{width_of, pen}
 use Rattle.screen.specs.Tables.{Table}
-use Rattle.screen.specs.Placing.{PenWidth, half_at, character_pen}
 
 both_left : (a b : Bool) → T (both a b) → T a
 both_left true b t = tt
@@ -61,20 +60,6 @@ tabled w {t} long all =
           eqb→eq _ _ (at (right w) t all place (omega (arith, place_in (8 / w) b q hq hb))) in
           rw (byte_of (8 / w) b q hq, pen_of (8 / w) b q hq) at same;
     }
-
--- the width of mode 1
-pub width_2 : PenWidth 2
-width_2 = record { some = omega arith; few = omega arith; each = λ j h. omega arith }
-
--- the pen at a character's position j stands in the table
-module _ {w : ℕ} (width : PenWidth w) {b : ℕ} (j : ℕ) (byte : b < 256) where
-  pub place : b * (8 / w) + j % 8 / w < 256 * (8 / w)
-  place = place_in (8 / w) b (j % 8 / w) (width.each (j % 8) (omega arith)) byte
-
-  pub its-pen : (left right : ℕ) {t : List ℕ} → b ≡ half_at left right j → Table w t →
-      get_or t (b * (8 / w) + j % 8 / w) 0 ≡ character_pen w left right j
-  unfolding character_pen pen_at
-  its-pen left right is table = rw (← is) (table.rule b (j % 8 / w) byte (width.each (j % 8) (omega arith)))
 
 below_2 : (m : ℕ) → m < 2 → of_bool (eqb m 1) ≡ m
 below_2 zero h = refl

@@ -1,22 +1,8 @@
--- Serves only the code's laying of pens, a character or a line at a time, in the contracts of private functions. No public promise cites it: a
+-- Serves only the code's laying of pens, a byte or a line at a time, in the contracts of private functions. No public promise cites it: a
 -- line's pens are said by MainLine, and the table by Tables.
-use Rattle.std.specs.Prelude.{◌≡◌, List, ℕ, ◌+◌, ◌/◌, ◌%◌, ◌<◌, ◌≤◌, eqb, ltb, get_or}
+use Rattle.std.specs.Prelude.{◌≡◌, List, ℕ, ◌+◌, ◌/◌, ◌%◌, ◌<◌, eqb, get_or}
 use Rattle.common.specs.Choice.{if}
-use Rattle.picture.specs.Pens.{pen_at}
 use Rattle.picture.specs.Screen.{character_at, byte_address}
-
--- a width that a byte's 8 positions are a whole number of
-pub record PenWidth (width : ℕ) : Type 0 where
-  pub some : 0 < width
-  pub few : 8 / width ≤ 8
-  pub each : (j : ℕ) → j < 8 → j / width < 8 / width
-
--- of a character's two bytes the one at position j, and its pen there
-abbrev pub half_at : ℕ → ℕ → ℕ → ℕ
-half_at left right j = if (ltb j 8) left right
-
-unfoldable pub character_pen : ℕ → ℕ → ℕ → ℕ → ℕ
-character_pen width left right j = pen_at width (half_at left right j) (j % 8)
 
 -- n values of a function in place, and what stood before them kept
 pub record Placed (f : ℕ → ℕ) (at n : ℕ) (before after : List ℕ) : Type 0 where

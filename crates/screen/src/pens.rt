@@ -37,8 +37,8 @@ const MODE_1: [u8; 1024] = *b"\
     \x03\x01\x01\x01\x03\x01\x01\x03\x03\x01\x03\x01\x03\x01\x03\x03\x03\x03\x01\x01\x03\x03\x01\x03\x03\x03\x03\x01\x03\x03\x03\x03";
 
 // The table of mode 1.
-pub fn mode_1_table() -> [u8; 1024]
-    ensures { Table 2 result }
+pub fn mode_1_table() -> &'static [u8; 1024]
+    ensures { Table 2 result.now }
 {
-    MODE_1
+    &MODE_1
 }

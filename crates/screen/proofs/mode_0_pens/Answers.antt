@@ -7,5 +7,5 @@ use Rattle.screen.proofs.mode_0_pens.Goals as goal
 pub returns : goal.returns
 unfolding pen_at
 returns c =
-    pens_of _ _ _ (λ i j h. refl) c.line_bytes-bytes.ensures c.put_pairs.ensures c.put_twice.ensures c.put_twice-2.ensures
-    (search rules) (search rules) (search rules) (search rules)
+    pens_of 0 _ _ _ (λ i j h. refl) c.line_bytes-bytes.ensures c.put_paired.ensures c.put_paired-2.ensures c.put_paired-3.ensures
+    (search rules) (search rules) (search rules)

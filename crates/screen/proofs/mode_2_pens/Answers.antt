@@ -5,5 +5,5 @@ use Rattle.screen.proofs.mode_2_pens.Goals as goal
 
 pub returns : goal.returns
 returns c =
-    pens_of _ _ _ (λ i. bits (c.type_inv.ram i).fits) c.line_bytes-bytes.ensures c.put_parts.ensures c.put_parts-2.ensures
-    c.put_parts-3.ensures (search rules) (search rules) (search rules) (search rules)
+    pens_of 2 _ _ _ (λ i. bits (c.type_inv.ram i).fits) c.line_bytes-bytes.ensures c.put_paired.ensures c.put_paired-2.ensures
+    c.put_paired-3.ensures (search rules) (search rules) (search rules)
