@@ -5,20 +5,26 @@ use Prim.Native.Nat.{ℕ, ◌+◌, ◌-◌, ◌<◌, ◌≤◌}
 use borrow.Author.Count.{below_more}
 use borrow.Author.Tests.{ne_eqb, lt-ltb, le-ltb, le-leb, lt-leb}
 use native.Mathlib.Omega.{arith}
-use lib.ListN.{length, get_or, set}
+use borrow.Rule.Slice.PartMut.{put_mid}
+use Rattle.std.proofs.Common.{rules}
+use Rattle.std.specs.List.{slice_range}
+use Rattle.std.proofs.lemmas.List.{places, get_or-replicate}
+use Rattle.std.proofs.lemmas.List.Edits.{length-between, get_or-between}
+use lib.ListN.{length, get_or, set, replicate}
 use lib.Seq.{get_or-set_same, get_or-set_other}
 use Rattle.common.proofs.Order.{either_side}
 use Rattle.screen.specs.MainLine.{LinePens}
 use Rattle.overlay.specs.Overlay.{first_on, pixel_on, Kept}
-use Rattle.overlay.specs.Stretches.{sprite, cover_pixel, first_cover, Ready, Starts, Rights, Joined}
+use Rattle.overlay.specs.Stretches.{sprite, cover_pixel, first_cover, Spanned, Joined}
 use Rattle.overlay.specs.declared.LineSprite.{LineSprite}
 use Rattle.overlay.specs.declared.LineSprites.{LineSprites}
+use Rattle.overlay.specs.declared.Spans.{Spans}
 use Rattle.overlay.specs.declared.Stretch.{Stretch}
 use Rattle.overlay.proofs.Search.{search-more, search-found}
 use Rattle.overlay.proofs.Covers.{covers_show}
 use Rattle.draw.specs.declared.Edges.{Edges}
 use Rattle.draw.specs.declared.Main.{Main}
-use Rattle.draw.specs.Mixing.{pen_across, main_at, over_at, covered_at, mixed_at, Has, Changed}
+use Rattle.draw.specs.Mixing.{main_at, over_at, covered_at, mixed_at, Has, Changed}
 
 pub has-none : (f : ℕ → ℕ) (l : List ℕ) → Has f 0 l
 has-none f l = record { entry = λ p h. absurd (omega arith) }
@@ -109,17 +115,13 @@ pub none_covers :
 unfolding covered_at first_cover
 none_covers store list covers none = record { inside = λ x g h. rw none; below = λ x h. refl; beyond = λ x h. refl }
 
--- those that are kept are ready
-pub ready : {shown : LineSprites} → Kept shown → Ready shown.list shown.count
-ready kept = record { bound = kept.bound; sized = kept.sized }
-
 -- those that cover a stretch show what the sprites on the line do
 pub stretch_same :
-    (store : List ℕ) {list : List LineSprite} {rights order covers : List ℕ} {total from end : ℕ} {s : Stretch} → Ready list total →
-    Starts list total order → Rights list total rights → Joined rights order total from end covers s → (x v : ℕ) → from ≤ x → x < s.until →
-    covered_at store list covers s.count x v ≡ over_at store list total x v
+    (store : List ℕ) {shown : LineSprites} {spans : Spans} {covers : List ℕ} {from end : ℕ} {s : Stretch} → Kept shown →
+    Spanned shown spans → Joined spans from end covers s → (x v : ℕ) → from ≤ x → x < s.until →
+    covered_at store shown.list covers s.count x v ≡ over_at store shown.list shown.count x v
 unfolding covered_at over_at
-stretch_same store ready starts rights joined x v past near = rw (covers_show starts ready rights joined store x past near)
+stretch_same store kept spanned joined x v past near = rw (covers_show spanned kept joined store x past near)
 
 -- with no sprite at all nothing is laid
 pub none_laid : (store : List ℕ) (list : List LineSprite) {before : List ℕ} {count from to : ℕ} → count ≡ 0 → Changed (over_at store list count) from to before before
@@ -127,15 +129,51 @@ unfolding over_at first_on
 none_laid store list none = record { inside = λ x g h. rw none; below = λ x h. refl; beyond = λ x h. refl }
 
 -- a line's pens give the main pen: its lead of 16 shows left of the scroll
-pub pens_main :
+pens_main :
     {ram pens : List ℕ} (m : Main) → LinePens ram m.mode m.address m.row pens → m.scroll ≤ 16 → (x : ℕ) → x < 640 →
-    pen_across pens m.scroll x ≡ main_at ram m x
+    get_or pens (x + (16 - m.scroll)) 0 ≡ main_at ram m x
 unfolding main_at
 pens_main m line low x h =
-    either_side x m.scroll (λ less. rw (lt-ltb x m.scroll less) (line.lead (x + 16 - m.scroll) (omega arith)))
+    either_side x m.scroll (λ less. rw (lt-ltb x m.scroll less) (line.lead (x + (16 - m.scroll)) (omega arith)))
     (λ more.
-    let e : x + 16 - m.scroll ≡ 16 + (x - m.scroll) = omega arith in
+    let e : x + (16 - m.scroll) ≡ 16 + (x - m.scroll) = omega arith in
     rw (le-ltb x m.scroll more, e) (line.pen (x - m.scroll) (omega arith)))
+
+-- a part of a line is copied
+module _ (from to : ℕ) (line part : List ℕ) (order : from ≤ to) (inside : to ≤ length line) (long : length part ≡ to - from) where
+  copied-below : (x : ℕ) → x < from → get_or (put_mid from (to - from) line part) x 0 ≡ get_or line x 0
+  copied-below x h = search (rules, places)
+
+  copied-inside : (x : ℕ) → from ≤ x → x < to → get_or (put_mid from (to - from) line part) x 0 ≡ get_or part (x - from) 0
+  copied-inside x h g = search (rules, places)
+
+  copied-beyond : (x : ℕ) → to ≤ x → get_or (put_mid from (to - from) line part) x 0 ≡ get_or line x 0
+  copied-beyond x h = search (rules, places)
+
+-- from its pens
+module _ {ram pens before : List ℕ} (m : Main) (from to : ℕ) (line : LinePens ram m.mode m.address m.row pens) (low : m.scroll ≤ 16)
+    (order : from ≤ to) (inside : to ≤ 640) (long : length before ≡ 640) where
+  pub main_laid :
+      {part : List ℕ} → part ≡ slice_range pens (from + (16 - m.scroll)) (to + (16 - m.scroll)) →
+      Changed (λ x v. main_at ram m x) from to before (put_mid from (to - from) before part)
+  main_laid {part} is =
+      let lead : ℕ = 16 - m.scroll in
+      let size : length part ≡ to - from = rw is (length-between pens (from + lead) (to + lead) (omega (arith, line.size)) ∙ omega arith) in
+      let room : to ≤ length before = omega arith in
+      record {
+        inside =
+            λ x h g.
+            let e : from + lead + (x - from) ≡ x + lead = omega arith in
+            let its : get_or part (x - from) 0 ≡ main_at ram m x =
+            rw (is, get_or-between pens (from + lead) (to + lead) (x - from) 0 (omega arith), e) (pens_main m line low x (omega arith)) in
+            copied-inside from to before part order room size x h g ∙ its;
+        below = copied-below from to before part order room size;
+        beyond = copied-beyond from to before part order room size;
+      }
+
+-- a line that is filled
+pub filled : {l : List ℕ} (v : ℕ) → l ≡ replicate 640 v → Has (λ x. v) 640 l
+filled v is = record { entry = λ x h. rw is (get_or-replicate 640 x v 0 h) }
 
 -- border, then the main screen over it, then the sprites over those
 module _ (ram : List ℕ) (main : Main) (shown : LineSprites) (store : List ℕ) (edges : Edges) where

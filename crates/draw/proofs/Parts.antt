@@ -5,10 +5,12 @@ use mathlib.Core.List.{List}
 use Prim.Native.Nat.{ℕ, ◌+◌, ◌*◌, ◌/◌, ◌%◌, ◌<◌, ◌≤◌}
 use native.Mathlib.Omega.{arith}
 use native.Mathlib.Nat.{mul-le-mul}
-use borrow.Author.Tests.{le-ltb, le-leb, lt-leb}
-use lib.Dec.{leb, ltb}
+use borrow.Author.Tests.{eqb-true, le-ltb, le-leb, lt-leb}
+use lib.Dec.{eqb, leb, ltb}
 use lib.ListN.{length}
+use Rattle.common.specs.Answers.{done, wrong_length, mode_three}
 use Rattle.common.specs.Choice.{if, both, either, bit}
+use Rattle.common.specs.Sizes.{ram_bytes, store_bytes, line_bytes}
 use Rattle.crtc.specs.Line.{scroll_lines}
 use Rattle.picture.specs.Screen.{row_line}
 use Rattle.overlay.specs.Overlay.{Overlay}
@@ -54,6 +56,20 @@ by_all : (all b : Bool) (r1 x : ℕ) → x < 640 →
     either b (leb (if all 0 (if (leb 40 r1) 640 (r1 * 16))) x) ≡ either all (either (leb r1 (x / 16)) b)
 by_all true b r1 x h = rw (le-leb 0 x (omega arith)) (either_true b)
 by_all false b r1 x h = rw (from_r1 r1 x h) (either_swap b (leb r1 (x / 16)))
+
+-- drawing is served where the buffers have their lengths
+pub sizes : (c : Chip) (ram store line : ℕ) → draw_answer c ram store line ≡ done → (ram ≡ ram_bytes) × (store ≡ store_bytes) × (line ≡ line_bytes)
+unfolding draw_answer
+sizes c ram store line served =
+    let t = by-test (eqb ram ram_bytes) (eqb store store_bytes) (eqb line line_bytes) served in
+    (eqb-true _ _ t.0, eqb-true _ _ t.1, eqb-true _ _ t.2)
+  where
+    by-test :
+        (t u v : Bool) → if (both t (both u v)) (if (eqb c.gate.mode 3) mode_three done) wrong_length ≡ done → (t ≡ true) × (u ≡ true) × (v ≡ true)
+    by-test true true true f = (refl, refl, refl)
+    by-test true true false f = absurd (omega (arith, sym f))
+    by-test true false v f = absurd (omega (arith, sym f))
+    by-test false u v f = absurd (omega (arith, sym f))
 
 module _ (c : Chip) where
   -- the edges tell the border

@@ -3,18 +3,19 @@
 #![tactic(auto)]
 
 ghost use Rattle.std.specs.Prelude.{◌≡◌, ◌+◌, ◌*◌, ◌%◌, ◌≤◌, length};
+ghost use Rattle.common.specs.Refusals.{answer_number};
 ghost use Rattle.crtc.specs.Line.{scroll_lines};
 ghost use Rattle.picture.specs.Screen.{row_line};
 ghost use Rattle.overlay.specs.Overlay.{Kept};
 ghost use Rattle.overlay.specs.Stretches.{Covered};
-ghost use Rattle.draw.specs.Drawing.{Draws};
-ghost use Rattle.draw.specs.Mixing.{left_of, right_of, pen_across, main_at, over_at, covered_at, mixed_at, Has, Changed};
+ghost use Rattle.draw.specs.Drawing.{draw_answer, Draws};
+ghost use Rattle.draw.specs.Mixing.{left_of, right_of, main_at, over_at, covered_at, mixed_at, Has, Changed};
 
 use chip::Chip;
-use common::answer::{DONE, MODE_THREE, WRONG_LENGTH};
+use common::answer::Refusal;
 use common::size::{LINE, RAM, STORE};
 use crtc::{Counters, Registers};
-use overlay::{LineSprite, LineSprites, Stretch};
+use overlay::{LineSprite, LineSprites, Spans, Stretch};
 
 // Where a line is border, which is below `left` and from `right` on.
 #[derive(Clone, Copy)]
@@ -32,53 +33,28 @@ struct Main {
     scroll: usize,
 }
 
-// The whole line as border.
-fn fill_border(line: &mut [u8])
-    requires { length line.old ≡ 640 }
-    ensures { Has (λ x. 16) 640 line.new }
-{
-    let mut x = 0;
-    while x < 640 {
-        line[x] = 16;
-        x += 1;
-    }
-}
-
-// The main pens from one position up to another, with the line's pens.
-fn lay_pens(line: &mut [u8], pens: &[u8], scroll: usize, from: usize, to: usize)
-    requires { (length line.old ≡ 640) × (length pens.now ≡ 656) × (scroll ≤ 16) × (from ≤ to) × (to ≤ 640) }
-    ensures { Changed (λ x v. pen_across pens.now scroll x) from to line.old line.new }
-{
-    let mut x = from;
-    while x < to {
-        line[x] = pens[x + 16 - scroll];
-        x += 1;
-    }
-}
-
-// The main screen from one position up to another. Its pens are made where they are laid: a whole line of them, handed on, would be
-// copied.
-fn lay_main(line: &mut [u8], ram: &[u8], main: Main, from: usize, to: usize)
-    requires { (length line.old ≡ 640) × (main.scroll ≤ 16) × (from ≤ to) × (to ≤ 640) }
-    ensures { Changed (λ x v. main_at ram.now main x) from to line.old line.new }
+// The main screen between the edges. Its pens are made where they are laid: a whole line of them, handed on, would be copied.
+fn lay_main(line: &mut [u8; 640], ram: &[u8], main: Main, edges: Edges)
+    requires { (main.scroll ≤ 16) × (edges.left ≤ edges.right) × (edges.right ≤ 640) }
+    ensures { Changed (λ x v. main_at ram.now main x) edges.left edges.right line.old line.new }
 {
     let pens = screen::line_pens(ram, main.mode, main.address, main.row);
-    lay_pens(line, &pens, main.scroll, from, to);
+    let lead = 16 - main.scroll;
+    line[edges.left..edges.right].copy_from_slice(&pens[edges.left + lead..edges.right + lead]);
 }
 
 // The sprites that cover a stretch from `from` on: at each position the first of them that isn't transparent there. The first of
 // them all is asked ahead of the others.
 fn lay_stretch(
-    line: &mut [u8],
-    store: &[u8],
-    list: [LineSprite; 16],
-    covers: &[usize],
+    line: &mut [u8; 640],
+    store: &[u8; 4096],
+    list: &[LineSprite; 16],
+    covers: &[usize; 16],
     s: Stretch,
     from: usize,
 )
-    requires line_len { (length line.old ≡ 640) × (length store.now ≡ 4096) × (length covers.now ≡ 16) }
-    requires from_le_until { (from ≤ s.until) × (s.until ≤ 640) × Covered list covers.now s from }
-    ensures { Changed (covered_at store.now list covers.now s.count) from s.until line.old line.new }
+    requires { (from ≤ s.until) × (s.until ≤ 640) × Covered list.now covers.now s from }
+    ensures { Changed (covered_at store.now list.now covers.now s.count) from s.until line.old line.new }
 {
     let count = s.count;
     let until = s.until;
@@ -105,44 +81,46 @@ fn lay_stretch(
     }
 }
 
-// The sprites from one position up to another, stretch by stretch.
-fn lay_sprites(line: &mut [u8], shown: LineSprites, store: &[u8], from: usize, to: usize)
-    requires { (length line.old ≡ 640) × (length store.now ≡ 4096) × (from ≤ to) × (to ≤ 640) × Kept shown }
-    ensures { Changed (over_at store.now shown.list shown.count) from to line.old line.new }
+// The sprites between the edges, stretch by stretch.
+fn lay_sprites(line: &mut [u8; 640], shown: &LineSprites, store: &[u8; 4096], edges: Edges)
+    requires { (edges.left ≤ edges.right) × (edges.right ≤ 640) × Kept shown.now }
+    ensures { Changed (over_at store.now shown.now.list shown.now.count) edges.left edges.right line.old line.new }
 {
-    let list = shown.list;
-    let total = shown.count;
-    if total == 0 {
+    if shown.count == 0 {
         return;
     }
-    let order = overlay::starts(list, total);
-    let rights = overlay::ends(list, total);
-    let mut covers = [0usize; 16];
+    let spans = Spans::of(shown);
+    let mut covers = [0; 16];
     let mut s = Stretch {
         count: 0,
         begun: 0,
-        until: from,
+        until: edges.left,
     };
-    while s.until < to {
+    while s.until < edges.right {
         let x = s.until;
-        s = overlay::next_stretch(&rights, &order, total, &mut covers, s, to);
-        lay_stretch(line, store, list, &covers, s, x);
+        s = spans.next_stretch(&mut covers, s, edges.right);
+        lay_stretch(line, store, &shown.list, &covers, s, x);
     }
 }
 
 // Each of the 640 entries: border, else the first sprite that isn't transparent there, else the main pen.
-fn mix(line: &mut [u8], ram: &[u8], main: Main, shown: LineSprites, store: &[u8], edges: Edges)
-    requires { (length line.old ≡ 640) × (length store.now ≡ 4096) × (edges.right ≤ 640) × (main.scroll ≤ 16) × Kept shown }
-    ensures { Has (mixed_at ram.now main shown store.now edges) 640 line.new }
+fn mix(
+    line: &mut [u8; 640],
+    ram: &[u8],
+    main: Main,
+    shown: &LineSprites,
+    store: &[u8; 4096],
+    edges: Edges,
+)
+    requires { (edges.right ≤ 640) × (main.scroll ≤ 16) × Kept shown.now }
+    ensures { Has (mixed_at ram.now main shown.now store.now edges) 640 line.new }
 {
-    let left = edges.left;
-    let right = edges.right;
-    fill_border(line);
-    if right <= left {
+    line.fill(16);
+    if edges.right <= edges.left {
         return;
     }
-    lay_main(line, ram, main, left, right);
-    lay_sprites(line, shown, store, left, right);
+    lay_main(line, ram, main, edges);
+    lay_sprites(line, shown, store, edges);
 }
 
 // The left edge: 16 if SSCR bit 7 is set.
@@ -192,41 +170,42 @@ fn frame_line(r: Registers, c: Counters) -> u16
     c.vc as u16 * (r.r9 as u16 + 1) + c.rc as u16
 }
 
-// Draws the current line into 640 bytes, each a palette entry. A refused call leaves them as they were.
-#[tactic(auto, using(crate::proofs::Parts::kept), unfolding(crate::specs::Drawing::draw_answer))]
-pub fn draw(chip: Chip, ram: &[u8], store: &[u8], line: &mut [u8]) -> u8
-    ensures { Draws chip ram.now store.now line.old line.new result }
+// What drawing is refused for: a buffer of another length, and then mode 3.
+#[tactic(auto, unfolding(crate::specs::Drawing::draw_answer))]
+fn may_draw(chip: Chip, ram: &[u8], store: &[u8], line: &[u8]) -> Result<(), Refusal>
+    ensures { answer_number result ≡ draw_answer chip (length ram.now) (length store.now) (length line.now) }
 {
-    if ram.len() != RAM {
-        return WRONG_LENGTH;
+    if ram.len() != RAM || store.len() != STORE || line.len() != LINE {
+        return Err(Refusal::WrongLength);
     }
-    if store.len() != STORE {
-        return WRONG_LENGTH;
+    if chip.gate.mode == 3 {
+        return Err(Refusal::ModeThree);
     }
-    if line.len() != LINE {
-        return WRONG_LENGTH;
-    }
-    let gate = chip.gate;
-    let mode = gate.mode;
-    if mode == 3 {
-        return MODE_THREE;
-    }
+    Ok(())
+}
+
+// Draws the current line into 640 bytes, each a palette entry. A refused call leaves them as they were.
+pub fn draw(chip: Chip, ram: &[u8], store: &[u8], line: &mut [u8]) -> Result<(), Refusal>
+    ensures { Draws chip ram.now store.now line.old line.new (answer_number result) }
+{
+    may_draw(chip, ram, store, line)?;
+    let store = store.as_array::<STORE>().unwrap();
+    let line = line.as_mut_array::<LINE>().unwrap();
     let crtc = chip.crtc;
     let registers = crtc.registers;
     let counters = crtc.counters;
     let sscr = chip.video.sscr;
-    let sprites = chip.sprites;
-    let shown = overlay::line_sprites(sprites, frame_line(registers, counters));
+    let shown = overlay::line_sprites(chip.sprites, frame_line(registers, counters));
     let edges = Edges {
         left: left_of(sscr),
         right: right_of(registers, counters),
     };
     let main = Main {
-        mode,
+        mode: chip.gate.mode,
         address: counters.address,
         row: row_line(counters.rc, sscr),
         scroll: scroll_of(sscr),
     };
-    mix(line, ram, main, shown, store, edges);
-    DONE
+    mix(line, ram, main, &shown, store, edges);
+    Ok(())
 }

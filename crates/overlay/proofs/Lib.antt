@@ -1,6 +1,5 @@
--- What the proofs share: small numbers, signed distances, a sprite's row, the first that shows, where sprites begin and end, rising
+-- What the proofs share: signed distances, a sprite's row, the first that shows, where sprites begin and end, rising
 -- lists, and stretches.
-pub mod Turns
 pub mod Distances
 pub mod Rows
 pub mod Search

@@ -5,7 +5,7 @@ use Rattle.std.specs.Option.{option_map_or}
 use Rattle.std.specs.Int.Signed.{lt_z}
 use Rattle.common.specs.Choice.{if}
 use Rattle.picture.specs.Sprites.{off_sprite}
-use Rattle.picture.specs.SpriteLine.{cell_at, pixel_at}
+use Rattle.picture.specs.SpriteLine.{y_scale, cell_at, pixel_at}
 use Rattle.picture.specs.declared.sprite.Sprite.{Sprite}
 use Rattle.overlay.specs.declared.LineSprite.{LineSprite}
 use Rattle.overlay.specs.declared.LineSprites.{LineSprites}
@@ -34,6 +34,11 @@ pub record Cell (scale : ℕ) (d : ℤ) (r : Option ℕ) : Type 0 where
   pub bound : IfSome r (λ row. row < 16)
   pub gives : (f : ℕ → ℕ) → cell_at scale d f ≡ option_map_or f r 0
 
+-- the row of a sprite that line y lies in: with none it shows nothing there, else the row is the one at the distance
+abbrev pub OnLine : Sprite → ℕ → Option ℕ → Type 0
+OnLine s y None = (store : List ℕ) (n x : ℕ) → pixel_at store n s y x ≡ 0
+OnLine s y (Some row) = Cell (y_scale s) (pos y -ℤ s.y) (Some row)
+
 -- the pixel at x of a sprite on a line
 unfoldable pub pixel_on : List ℕ → LineSprite → ℕ → ℕ
 pixel_on store e x = cell_at e.magnification (pos x -ℤ e.x) (λ column. get_or store (e.pixels + column) 0 % 16)
@@ -60,12 +65,6 @@ pub record Ends (z : ℤ) (span right : ℕ) : Type 0 where
 pub record Sized (e : LineSprite) : Type 0 where
   pub magnified : Magnification e.magnification
   pub stored : e.pixels ≤ 4080
-
--- the row of sprite n that line y shows, as the code keeps it: with none the sprite shows nothing there, else the row shows what it has
--- there
-abbrev pub OnLine : Sprite → ℕ → ℕ → Option LineSprite → Type 0
-OnLine s y n None = (store : List ℕ) (x : ℕ) → pixel_at store n s y x ≡ 0
-OnLine s y n (Some e) = Sized e × ((store : List ℕ) (x : ℕ) → pixel_on store e x ≡ pixel_at store n s y x)
 
 -- so many of a list of sixteen are kept
 pub record Kept (r : LineSprites) : Type 0 where

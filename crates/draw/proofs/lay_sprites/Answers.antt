@@ -1,12 +1,11 @@
 -- With no sprite nothing is laid; a stretch more is laid by those that cover it.
 use native.Mathlib.Nat.{le_of_lt, le_trans}
-use Rattle.std.proofs.Common.{rules}
 use Rattle.overlay.proofs.Covers.{carried_on}
-use Rattle.draw.proofs.Entries.{changed-on, changed-same, ready, stretch_same, none_laid}
+use Rattle.draw.proofs.Entries.{changed-on, changed-same, stretch_same, none_laid}
 use Rattle.draw.proofs.lay_sprites.Goals as goal
 
-pub returns-then-total-eq0 : goal.returns-then-total-eq0
-returns-then-total-eq0 c = none_laid _ _ c.if-total-eq0.true
+pub returns-then-shown-eq0 : goal.returns-then-shown-eq0
+returns-then-shown-eq0 c = none_laid _ _ c.if-shown-eq0.true
 
 pub loop-s-preserved : goal.loop-s-preserved
 loop-s-preserved c =
@@ -15,9 +14,7 @@ loop-s-preserved c =
     let more = le_of_lt j.ending.some in (
       le_trans l.invariant.0 more,
       j.inside,
-      search rules,
-      search rules,
       carried_on j.carried _ more,
-      changed-on l.invariant.5 l.invariant.0 more (changed-same c.lay_stretch.ensures
-          (stretch_same _ (ready c.requires.4) c.starts-order.ensures c.ends-rights.ensures j)),
+      changed-on l.invariant.3 l.invariant.0 more (changed-same c.lay_stretch.ensures
+          (stretch_same _ c.requires.2 c.of-spans.ensures j)),
     )

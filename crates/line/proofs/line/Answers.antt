@@ -4,4 +4,4 @@ use Rattle.line.proofs.Step.{shows}
 use Rattle.line.proofs.line.Goals as goal
 
 pub returns : goal.returns
-returns c = shows c.draw-answer.ensures (search rules)
+returns c = shows c.draw-drawn.ensures (search rules)
