@@ -1,28 +1,22 @@
 -- The text of words, one more word at a time: its size, whether it has room, and what is written.
 use mathlib.Core.Path.{◌≡◌, refl, ap, sym, ◌∙◌}
-use mathlib.Core.Bool.{true, false}
+use mathlib.Core.Bool.{false}
 use mathlib.Core.List.{List, [], ◌∷◌, ◌++◌, append_assoc, append-nil}
 use Prim.Native.Nat.{ℕ, ◌+◌, ◌≤◌, ◌<◌}
 use native.Mathlib.Numerals.{add-one}
 use native.Mathlib.Omega.{arith}
-use borrow.Author.Tests.{le-leb, lt-leb}
+use borrow.Author.Tests.{lt-leb}
 use lib.Dec.{leb}
 use lib.ListN.{length, take, drop, get_or, length-append, take-append-drop}
-use lib.Seq.{take-suc, take_all}
+use lib.Seq.{take-suc}
 use Rattle.common.specs.Storing.{Puts, PutsIfRoom}
 use Rattle.common.proofs.Storing.{then-put, had-room}
 use Rattle.mnemonic.specs.Mnemonic.{text_line}
-use Rattle.mnemonic.proofs.Lines.{some}
 use Rattle.listing.specs.Text.{text_of}
 
 pub text_append : (a b : List ℕ) → text_of (a ++ b) ≡ text_of a ++ text_of b
 text_append [] b = refl
 text_append (w ∷ a) b = rw (text_append a b, append_assoc)
-
--- a text has a byte at least for each word
-pub size-least : (ws : List ℕ) → length ws ≤ length (text_of ws)
-size-least [] = omega arith
-size-least (w ∷ ws) = simp length-append (omega (arith, some w, size-least ws))
 
 -- the text of the first words is no longer than that of all
 pub size-within : (ws : List ℕ) (i : ℕ) → length (text_of (take i ws)) ≤ length (text_of ws)
@@ -42,9 +36,6 @@ module _ (ws : List ℕ) (i : ℕ) where
   pub no_room : (room : ℕ) → i < length ws → room < length (text_of (take i ws)) + length (text_line (get_or ws i 0)) → false ≡ leb (length (text_of ws)) room
   no_room room h l = sym (lt-leb (length (text_of ws)) room (omega (arith, size-more h, size-within ws (i + 1))))
 
-  pub room_for_all : (room : ℕ) → length ws ≤ i → length (text_of (take i ws)) ≤ room → true ≡ leb (length (text_of ws)) room
-  room_for_all room h l = sym (le-leb (length (text_of ws)) room (rw (take_all i ws h) at l))
-
 -- the text of the first words is written; then that of one more
 pub written-more :
     (ws : List ℕ) (i : ℕ) {l out after : List ℕ} {at next : ℕ} → Puts l 0 (text_of (take i ws)) out at → i < length ws → length (text_of ws) ≤ length out →
@@ -52,5 +43,5 @@ pub written-more :
 written-more ws i k h room p =
     rw (text_more ws i h) (then-put k (had-room p (omega (arith, k.place, size-more ws i h, size-within ws (i + 1)))))
 
-pub written_all : (ws : List ℕ) (i : ℕ) {l out : List ℕ} {at : ℕ} → Puts l 0 (text_of (take i ws)) out at → length ws ≤ i → Puts l 0 (text_of ws) out at
-written_all ws i k h = rw (take_all i ws h) at k
+-- one word more, in a room and in a buffer
+pub ruleset room_steps = (size-more, no_room)

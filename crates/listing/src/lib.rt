@@ -2,14 +2,15 @@
 
 #![tactic(auto)]
 
-ghost use Rattle.std.specs.Prelude.{◌≡◌, ◌≤◌, leb, length};
+ghost use Rattle.std.specs.Prelude.{◌≡◌, [], ◌≤◌, leb, length};
+ghost use Rattle.common.specs.Refusals.{number};
 ghost use Rattle.common.specs.Storing.{Puts};
-ghost use Rattle.listing.specs.Text.{text_of};
+ghost use Rattle.listing.specs.Text.{text_of, Parsed};
 ghost use Rattle.listing.specs.Contract.{PrintsWords, ReadsText};
-ghost use Rattle.listing.specs.Passes.{Checked, Listed, Stored};
+ghost use Rattle.listing.specs.Passes.{Checked, Listed};
 
-use common::answer::{DONE, NOT_LISTING, TOO_SMALL};
-use compare::begins_with_line;
+use common::answer::{DONE, Refusal};
+use compare::strip_line;
 use guess::guess;
 use mnemonic::{put_line, width};
 
@@ -27,7 +28,7 @@ pub fn print(words: &[u16], text: &mut [u8]) -> Printed
 {
     if !fits(words, text.len()) {
         return Printed {
-            answer: TOO_SMALL,
+            answer: Refusal::TooSmall.number(),
             size: 0,
         };
     }
@@ -36,18 +37,17 @@ pub fn print(words: &[u16], text: &mut [u8]) -> Printed
 }
 
 // Whether the text of words has room.
+#[tactic(auto, using(crate::proofs::Texts::room_steps))]
 fn fits(words: &[u16], room: usize) -> bool
     ensures { result ≡ leb (length (text_of words.now)) room }
 {
     let mut left = room;
-    let mut i = 0;
-    while i < words.len() {
-        let size = width(words[i]);
+    for word in words {
+        let size = width(*word);
         if left < size {
             return false;
         }
         left -= size;
-        i += 1;
     }
     true
 }
@@ -58,10 +58,8 @@ fn written(words: &[u16], text: &mut [u8]) -> usize
     ensures { Puts text.old 0 (text_of words.now) text.new result }
 {
     let mut at = 0;
-    let mut i = 0;
-    while i < words.len() {
-        at = put_line(text, at, words[i]);
-        i += 1;
+    for word in words {
+        at = put_line(text, at, *word);
     }
     at
 }
@@ -79,15 +77,14 @@ pub struct ReadBack {
 pub fn read(text: &[u8], words: &mut [u16]) -> ReadBack
     ensures { ReadsText text.now words.old words.new result.answer result.count result.line }
 {
-    let lines = checked(text);
-    let count = lines.count;
-    if !lines.all {
-        return refused(NOT_LISTING, count + 1);
-    }
+    let count = match checked(text) {
+        Ok(count) => count,
+        Err(FirstBad(line)) => return refused(Refusal::NotListing, line),
+    };
     if words.len() < count {
-        return refused(TOO_SMALL, 0);
+        return refused(Refusal::TooSmall, 0);
     }
-    stored(text, words);
+    stored(text, &mut words[..count]);
     ReadBack {
         answer: DONE,
         count,
@@ -96,52 +93,45 @@ pub fn read(text: &[u8], words: &mut [u16]) -> ReadBack
 }
 
 // No word is written.
-fn refused(answer: u8, line: usize) -> ReadBack
-    ensures { (result.answer ≡ answer) × (result.count ≡ 0) × (result.line ≡ line) }
+fn refused(refusal: Refusal, line: usize) -> ReadBack
+    ensures { (result.answer ≡ number refusal) × (result.count ≡ 0) × (result.line ≡ line) }
 {
     ReadBack {
-        answer,
+        answer: refusal.number(),
         count: 0,
         line,
     }
 }
 
-// Whether all of a text is lines of words, and how many such lines it begins with.
+// The number of the first line that is no word's, from 1.
 #[derive(Clone, Copy)]
-struct Lines {
-    all: bool,
-    count: usize,
-}
+struct FirstBad(usize);
 
-// Compares a text with the lines of words.
-fn checked(text: &[u8]) -> Lines
-    ensures { Checked text.now result.all result.count }
+// How many lines a text has, if each is a word's.
+fn checked(text: &[u8]) -> Result<usize, FirstBad>
+    ensures { Checked text.now result }
 {
-    let mut at = 0;
+    let mut rest = text;
     let mut count = 0;
-    while at < text.len() {
-        let rest = &text[at..];
-        let word = guess(rest);
-        if !begins_with_line(rest, word) {
-            return Lines { all: false, count };
-        }
-        at += width(word);
+    while !rest.is_empty() {
+        let Some(behind) = strip_line(rest, guess(rest)) else {
+            return Err(FirstBad(count + 1));
+        };
+        rest = behind;
         count += 1;
     }
-    Lines { all: true, count }
+    Ok(count)
 }
 
-// Stores the words of a text that is all lines of words and has no more of them than there is room.
-fn stored(text: &[u8], words: &mut [u16])
-    requires { Listed text.now (length words.old) }
-    ensures { Stored text.now words.old words.new }
+// Stores the words of a text that is as many lines of words as there are places.
+fn stored(text: &[u8], places: &mut [u16])
+    requires { Listed text.now (length places.old) }
+    ensures { Parsed text.now places.new [] }
 {
-    let mut at = 0;
-    let mut i = 0;
-    while at < text.len() {
-        let word = guess(&text[at..]);
-        words[i] = word;
-        at += width(word);
-        i += 1;
+    let mut rest = text;
+    for place in places.iter_mut() {
+        let word = guess(rest);
+        *place = word;
+        rest = rest.split_at(width(word)).1;
     }
 }

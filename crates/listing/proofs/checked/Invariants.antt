@@ -1,10 +1,10 @@
--- Before each turn the lines of the first words that are counted end at the place.
-use Rattle.std.proofs.Common.{◌≤◌, ◌-◌, length}
+-- Each word so far has a byte at least, and the rest is behind their lines.
+use Rattle.std.proofs.Common.{◌+◌, ◌≤◌, length}
 use Rattle.listing.proofs.Stages.{Stage}
 use Rattle.listing.proofs.checked.Given as goal
 
-abbrev pub invariant-loop-at : goal.invariant-loop-at
-invariant-loop-at l = (l.at ≤ length l.text) × (l.count ≤ l.at) × Stage l.text l.at l.count
+abbrev pub invariant-loop-rest : goal.invariant-loop-rest
+invariant-loop-rest l = (l.count + length l.rest ≤ length l.text) × Stage l.text l.rest l.count
 
-abbrev pub decreases-loop-at : goal.decreases-loop-at
-decreases-loop-at l = length l.text - l.at
+abbrev pub decreases-loop-rest : goal.decreases-loop-rest
+decreases-loop-rest l = length l.rest
