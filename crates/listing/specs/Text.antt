@@ -1,12 +1,12 @@
 -- Request L1: the text of a list, and what a text reads as.
 use Rattle.std.specs.Prelude.{◌≡◌, List, [], ◌∷◌, ◌++◌, ℕ, ◌<◌, eqb}
+use Rattle.std.specs.List.{flat_map}
 use Rattle.common.specs.Choice.{if}
 use Rattle.mnemonic.specs.Mnemonic.{text_line, lf}
 
 -- the lines of the words, one after another
 abbrev pub text_of : List ℕ → List ℕ
-text_of [] = []
-text_of (w ∷ ws) = text_line w ++ text_of ws
+text_of words = flat_map text_line words
 
 -- each is a word of 16 bits
 abbrev pub Words : List ℕ → Type 0
