@@ -16,11 +16,13 @@ use Rattle.take.specs.File.{letters, records_bytes, trailer, file_of, Writable}
 use Rattle.take.specs.Write.{room_for, write_answer, Writing}
 use Rattle.take.specs.Open.{trailer_of, count_of, offset_of, has_trailer, meets, records_from, records_of, open_answer, comment_of, Opens}
 use Rattle.take.specs.Contract.{WritesTake}
+use Rattle.take.specs.Parts.{Met}
 use Rattle.take.specs.declared.Record.{Record}
 use Rattle.take.proofs.Numbers.{number_exact, number-below, bytes_back, take_below, drop-below}
 use Rattle.take.proofs.Records.{within-unpacked, unpacked-packed, bytes-unpacked}
 use Rattle.take.proofs.Storing.{length-records, length_file}
-use Rattle.take.proofs.Trailers.{Met, meets-is, done_met, last-letters}
+use Rattle.take.proofs.Opening.{length_from}
+use Rattle.take.proofs.Trailers.{meets-is, done_met, last-letters}
 
 -- records that are written are read again
 records-back : (rs : List Record) (more : List ℕ) → AllWithin rs → records_from (length rs) (records_bytes rs ++ more) ≡ rs
@@ -106,10 +108,6 @@ bytes_of_records (suc n) bs b h =
     ap (λ x. x ++ records_bytes (records_from n (drop 8 bs))) e
     ∙ ap (λ x. take 8 bs ++ x) (bytes_of_records n (drop 8 bs) (drop-below 8 bs b) l)
     ∙ rw m (sym (take-add 8 (8 * n) bs))
-
-length_from : (n : ℕ) (bs : List ℕ) → length (records_from n bs) ≡ n
-length_from zero bs = refl
-length_from (suc n) bs = ap suc (length_from n (drop 8 bs))
 
 module _ (file : List ℕ) (b : AreBytes file) (d : open_answer file ≡ 0) where
   met : Met file (count_of file) (offset_of file)

@@ -1,13 +1,13 @@
 -- Laws of numbers as bytes, over the width.
-use native.Mathlib.Nat.{zero-add, add-zero, sub-zero, sub_self, suc-add, mul-one, add-mul, mul_assoc}
+use native.Mathlib.Nat.{zero-add}
 use native.Mathlib.Nat.{pow-le-pow_right, pow-suc, mod-one, mod-eq_of_lt, div-eq_of_lt, add-mul-mod_self_right, add-mul-div_right}
 use native.Mathlib.Omega.{arith}
 use mathlib.Core.Path.{◌≡◌, refl, sym, ◌∙◌}
 use mathlib.Core.List.{List, [], ◌∷◌, ◌++◌}
-use Prim.Native.Nat.{ℕ, zero, suc, ◌+◌, ◌*◌, ◌/◌, ◌%◌, ◌^◌, ◌-◌, ◌<◌, ◌≤◌}
+use Prim.Native.Nat.{ℕ, zero, suc, ◌+◌, ◌*◌, ◌/◌, ◌%◌, ◌^◌, ◌<◌}
 use lib.Arith.{mod-mul}
-use lib.ListN.{length, get_or, take, drop}
-use lib.Seq.{take-nil, drop-drop, get_or-drop}
+use lib.ListN.{length, take, drop}
+use lib.Seq.{get_or-drop}
 use Rattle.take.specs.Bytes.{AreBytes, bytes_of, number_of}
 
 pub bytes_below : (k n : ℕ) → AreBytes (bytes_of k n)
@@ -65,56 +65,3 @@ bytes_back k bs h e = rw (← e) (bytes-number bs h)
 pub number-below : (bs : List ℕ) → AreBytes bs → number_of bs < 256 ^ length bs
 number-below [] h = omega arith
 number-below (b ∷ bs) h = rw pow-suc (omega (arith, h 0, number-below bs (λ i. h (suc i))))
-
--- so many bytes from a place on, in two parts
-number-parts :
-    (j k : ℕ) (bs : List ℕ) → number_of (take (j + k) bs) ≡ number_of (take j bs) + number_of (take k (drop j bs)) * 256 ^ j
-number-parts zero k bs = simp (zero-add, mul-one)
-number-parts (suc j) k [] = simp take-nil (omega arith)
-number-parts (suc j) k (b ∷ bs) = rw (suc-add, number-parts j k bs, pow-suc, add-mul, mul_assoc) (omega arith)
-
-pub number-from :
-    (j k at : ℕ) (bs : List ℕ) →
-    number_of (take (j + k) (drop at bs)) ≡ number_of (take j (drop at bs)) + number_of (take k (drop (at + j) bs)) * 256 ^ j
-number-from j k at bs = rw (← (drop-drop j at bs)) (number-parts j k (drop at bs))
-
--- the bytes from a place on: the one there, and those after it
-pub number-next : (k at : ℕ) (bs : List ℕ) → number_of (take (suc k) (drop at bs)) ≡ get_or bs at 0 + number_of (take k (drop (suc at) bs)) * 256
-number-next k zero [] = rw take-nil
-number-next k zero (b ∷ bs) = refl
-number-next k (suc at) [] = rw take-nil
-number-next k (suc at) (b ∷ bs) = number-next k at bs
-
--- the bytes from a place on that are read, high byte first, when so many are left
-pub record Read (bs : List ℕ) (at width left number : ℕ) : Type 0 where
-  pub few : left ≤ width
-  pub read : number ≡ number_of (take (width - left) (drop (at + left) bs))
-  pub below : number < 256 ^ (width - left)
-
-pub read_none : (bs : List ℕ) (at width : ℕ) → Read bs at width width 0
-read_none bs at width =
-    let e : width - width ≡ 0 = sub_self width in
-    record { few = omega arith; read = simp e; below = rw e (omega arith) }
-
-module _ {bs : List ℕ} {at width left number : ℕ} (r : Read bs at width left number) where
-  pub read_small : width ≤ 4 → 0 < left → number < 256 ^ 3
-  read_small w h = omega (arith, r.below, pow-le-pow_right {n = 256} (omega arith) {i = width - left} {j = 3} (omega arith))
-
-  pub read_more : {byte : ℕ} → 0 < left → byte ≡ get_or bs (at + (left - 1)) 0 → byte < 256 → Read bs at width (left - 1) (byte + number * 256)
-  read_more {byte} h e b =
-      let more : width - (left - 1) ≡ suc (width - left) = omega (arith, r.few) in
-      let place : suc (at + (left - 1)) ≡ at + left = omega arith in
-      record {
-        few = omega (arith, r.few);
-        read = rw (more, number-next, place, ← r.read, e);
-        below = rw (more, pow-suc) (omega (arith, r.below));
-      }
-
-pub read_all :
-    {bs : List ℕ} {at width left number : ℕ} → Read bs at width left number → left ≡ 0 →
-    (number ≡ number_of (take width (drop at bs))) × (number < 256 ^ width)
-read_all {bs} {at} {width} r e =
-    let w : width - 0 ≡ width = sub-zero width in
-    let a : at + 0 ≡ at = add-zero at in
-    let z = rw e at r in
-    (rw (w, a) at z.read, rw w at z.below)

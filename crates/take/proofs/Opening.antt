@@ -10,28 +10,32 @@ use lib.ListN.{length, get_or, take, drop}
 use lib.Seq.{drop-drop}
 use Rattle.take.specs.Record.{record_in, first_bad}
 use Rattle.take.specs.declared.Record.{Record}
-use Rattle.take.specs.Open.{count_of, offset_of, records_from, records_of, trailer_answer, open_answer, Opening, comment_of, record_answer, no_record, ReadsRecord}
-use Rattle.take.specs.Parts.{Ending}
-use Rattle.take.proofs.Trailers.{Met, by-trailer, done_met}
+use Rattle.take.specs.Open.{count_of, offset_of, records_from, records_of, open_answer, Opening, comment_of, record_answer, no_record, ReadsRecord}
+use Rattle.take.specs.Parts.{FirstBad, Met, Ending}
+use Rattle.std.specs.Prelude.{None, Some, Err}
+use Rattle.common.specs.Refusals.{number}
+use Rattle.common.specs.declared.answer.Refusal.{Refusal}
+use Rattle.take.proofs.Trailers.{by-trailer, done_met}
 
 -- opening, by what the trailer answers
-pub refused : {file : List ℕ} {answer count offset : ℕ} → Ending file answer count offset → (answer ≡ 0 → ⊥) → Opening file answer 0 0 0
+pub refused : {file : List ℕ} (refusal : Refusal) → Ending file (Err refusal) → Opening file (number refusal) 0 0 0
 unfolding open_answer
-refused {file} e n =
+refused {file} refusal e =
     by-trailer file
-    (λ h. record { answered = e.answered ∙ simp h; bad_number = simp h; counted = simp h; placed = simp h })
-    (λ h m. record { answered = e.answered ∙ simp (h, m); bad_number = simp (h, m); counted = simp (h, m); placed = simp (h, m) })
-    (λ m. absurd (n (e.answered ∙ simp (m.has, m.meet))))
+    (λ h. record { answered = sym e.0 ∙ simp h; bad_number = simp h; counted = simp h; placed = simp h })
+    (λ h m. record { answered = sym e.0 ∙ simp (h, m); bad_number = simp (h, m); counted = simp (h, m); placed = simp (h, m) })
+    (λ m. absurd (let q = simp (m.has, m.meet) at e.1 in let z : ◌≡◌ {A = ℕ} 0 1 = cc in omega arith))
 
-module _ {file : List ℕ} {count offset bad : ℕ} (m : Met file count offset) (b : bad ≡ first_bad (records_from count (drop offset file))) where
-  first : first_bad (records_of file) ≡ bad
+module _ {file : List ℕ} {count offset : ℕ} (m : Met file count offset) where
+  all-of : records_from count (drop offset file) ≡ records_of file
   unfolding records_of
-  first = rw (← m.counted, ← m.placed) (sym b)
+  all-of = rw (← m.counted, ← m.placed)
 
-  pub opened-bad : (bad ≡ 0 → ⊥) → Opening file 13 bad 0 0
+  pub opened-bad : (bad : ℕ) → FirstBad (records_from count (drop offset file)) (Some bad) → Opening file 13 bad 0 0
   unfolding open_answer
-  opened-bad n =
-      let t : eqb bad 0 ≡ false = ne_eqb bad 0 n in
+  opened-bad bad b =
+      let first : first_bad (records_of file) ≡ bad = rw (← all-of) b.0 in
+      let t : eqb bad 0 ≡ false = ne_eqb bad 0 b.1 in
       record {
         answered = simp (m.has, m.meet, first, t);
         bad_number = simp (m.has, m.meet, first, t);
@@ -39,14 +43,15 @@ module _ {file : List ℕ} {count offset bad : ℕ} (m : Met file count offset) 
         placed = simp (m.has, m.meet, first, t);
       }
 
-  pub opened : bad ≡ 0 → Opening file 0 0 count offset
+  pub opened : FirstBad (records_from count (drop offset file)) None → Opening file 0 0 count offset
   unfolding open_answer
-  opened z =
+  opened b =
+      let first : first_bad (records_of file) ≡ 0 = rw (← all-of) b in
       record {
-        answered = simp (m.has, m.meet, first, z);
-        bad_number = simp (m.has, m.meet, first, z);
-        counted = simp (m.has, m.meet, first, z) m.counted;
-        placed = simp (m.has, m.meet, first, z) m.placed;
+        answered = simp (m.has, m.meet, first);
+        bad_number = simp (m.has, m.meet, first);
+        counted = simp (m.has, m.meet, first) m.counted;
+        placed = simp (m.has, m.meet, first) m.placed;
       }
 
 -- what opening gives as the offset
@@ -66,16 +71,10 @@ module _ {file : List ℕ} {answer bad count offset : ℕ} (o : Opening file ans
   comment_is = by_answer (λ d e. simp (d, e)) (λ d e. simp (d, e))
 
 -- the record of a number: refused, it is all 0
-pub refused_so :
-    {file : List ℕ} {n a b : ℕ} {r : Record} → (b ≡ a) × (r ≡ no_record) → ReadsRecord file n a no_record → ReadsRecord file n b r
-refused_so p q = record { answered = p.0 ∙ q.answered; read = p.1 ∙ q.read }
-
-module _ {file : List ℕ} {answer count offset : ℕ} (e : Ending file answer count offset) where
-  pub none_read : (answer ≡ 0 → ⊥) → (n : ℕ) → ReadsRecord file n answer no_record
+module _ {file : List ℕ} (refusal : Refusal) (e : Ending file (Err refusal)) where
+  pub none_read : (n : ℕ) → ReadsRecord file n (number refusal) no_record
   unfolding record_answer
-  none_read z n =
-      let t : eqb (trailer_answer file) 0 ≡ false = ne_eqb (trailer_answer file) 0 (λ d. z (e.answered ∙ d)) in
-      record { answered = e.answered ∙ simp t; read = simp t }
+  none_read n = record { answered = sym e.0 ∙ simp e.1; read = simp e.1 }
 
 records-at : (i n : ℕ) (bs : List ℕ) → i < n → get_or (records_from n bs) i no_record ≡ record_in (drop (8 * i) bs)
 records-at i zero bs h = absurd (omega arith)
@@ -83,6 +82,15 @@ records-at zero (suc n) bs h = refl
 records-at (suc i) (suc n) bs h =
     let e : 8 + 8 * i ≡ 8 * suc i = omega arith in
     records-at i n (drop 8 bs) (omega arith) ∙ ap record_in (drop-drop (8 * i) 8 bs ∙ ap (λ k. drop k bs) e)
+
+pub read-at :
+    (file : List ℕ) (offset count i : ℕ) → i < count →
+    get_or (records_from count (drop offset file)) i no_record ≡ record_in (drop (offset + 8 * i) file)
+read-at file offset count i h = records-at i count (drop offset file) h ∙ ap record_in (drop-drop (8 * i) offset file)
+
+pub length_from : (n : ℕ) (bs : List ℕ) → length (records_from n bs) ≡ n
+length_from zero bs = refl
+length_from (suc n) bs = ap suc (length_from n (drop 8 bs))
 
 module _ {file : List ℕ} {count offset : ℕ} (m : Met file count offset) (n : ℕ) where
   pub number_0 : n ≡ 0 → ReadsRecord file n 3 no_record
@@ -102,6 +110,5 @@ module _ {file : List ℕ} {count offset : ℕ} (m : Met file count offset) (n :
       let a = le-leb 1 n (omega arith) in
       let b = le-leb n (count_of file) (omega (arith, m.counted)) in
       let q : r ≡ get_or (records_from (count_of file) (drop (offset_of file) file)) (n - 1) no_record =
-      e ∙ ap record_in (sym (drop-drop (8 * (n - 1)) offset file)) ∙ sym (records-at (n - 1) count (drop offset file) (omega arith))
-      ∙ rw (m.counted, m.placed) in
+      e ∙ sym (read-at file offset count (n - 1) (omega arith)) ∙ rw (m.counted, m.placed) in
       record { answered = simp (m.has, m.meet, a, b); read = simp (m.has, m.meet, a, b) q }

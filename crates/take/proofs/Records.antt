@@ -2,13 +2,12 @@
 use native.Mathlib.Nat.{div-div-eq-div-mul, mod-eq_of_lt}
 use native.Mathlib.Omega.{arith}
 use mathlib.Core.Path.{◌≡◌, sym, ◌∙◌, ap}
-use mathlib.Core.List.{List, ◌++◌}
+use mathlib.Core.List.{◌++◌}
 use Prim.Native.Nat.{ℕ, ◌+◌, ◌*◌, ◌/◌, ◌%◌, ◌^◌, ◌<◌}
-use lib.ListN.{take, drop}
-use Rattle.take.specs.Bytes.{AreBytes, bytes_of, number_of}
-use Rattle.take.specs.Record.{Within, record_bytes, packed, unpacked, record_in}
+use Rattle.take.specs.Bytes.{AreBytes, bytes_of}
+use Rattle.take.specs.Record.{Within, record_bytes, packed, unpacked}
 use Rattle.take.specs.declared.Record.{Record}
-use Rattle.take.proofs.Numbers.{bytes_below, append-below, number_exact, low, high, bytes-number, number-from}
+use Rattle.take.proofs.Numbers.{bytes_below, append-below, number_exact, low, high, bytes-number}
 
 pub within-unpacked : (n : ℕ) → Within (unpacked n)
 unfolding unpacked
@@ -67,22 +66,3 @@ bytes_packed r = bytes-number (record_bytes r) (record_below r)
 
 pub bytes-unpacked : (n : ℕ) → n < 2 ^ 64 → record_bytes (unpacked n) ≡ bytes_of 8 n
 bytes-unpacked n h = sym (bytes_packed (unpacked n)) ∙ ap (bytes_of 8) (packed-unpacked n h)
-
--- the record in the 8 bytes from a place on, part by part
-pub record_parts :
-    (file : List ℕ) (at : ℕ) (r : Record) → Within r →
-    r.line ≡ number_of (take 4 (drop at file)) →
-    r.kind ≡ number_of (take 1 (drop (at + 4) file)) →
-    r.address ≡ number_of (take 2 (drop (at + 5) file)) →
-    r.value ≡ number_of (take 1 (drop (at + 7) file)) →
-    r ≡ record_in (drop at file)
-record_parts file at r w line kind address value =
-    let five : at + 4 + 1 ≡ at + 5 = omega arith in
-    let seven : at + 5 + 2 ≡ at + 7 = omega arith in
-    let all : number_of (take 8 (drop at file)) ≡ number_of (take 4 (drop at file)) + number_of (take 4 (drop (at + 4) file)) * 2 ^ 32 =
-    number-from 4 4 at file in
-    let one : number_of (take 4 (drop (at + 4) file)) ≡ number_of (take 1 (drop (at + 4) file)) + number_of (take 3 (drop (at + 5) file)) * 2 ^ 8 =
-    rw five at (number-from 1 3 (at + 4) file) in
-    let two : number_of (take 3 (drop (at + 5) file)) ≡ number_of (take 2 (drop (at + 5) file)) + number_of (take 1 (drop (at + 7) file)) * 2 ^ 16 =
-    rw seven at (number-from 2 1 (at + 5) file) in
-    sym (unpacked-sum (number_of (take 8 (drop at file))) r w (rw (all, one, two, ← line, ← kind, ← address, ← value)))

@@ -1,72 +1,59 @@
 -- What is stored in a buffer: a number, records, a trailer, a file.
-use native.Mathlib.Nat.{add-zero, sub-zero}
+use native.Mathlib.Nat.{div-one, div-div-eq-div-mul, pow-suc}
+use native.Mathlib.Numerals.{add-one}
 use native.Mathlib.Omega.{arith}
 use mathlib.Core.Path.{◌≡◌, refl, sym, ◌∙◌, ap}
-use mathlib.Core.List.{List, [], ◌∷◌, ◌++◌, map}
-use Prim.Native.Nat.{ℕ, suc, ◌+◌, ◌-◌, ◌*◌, ◌/◌, ◌%◌, ◌^◌, ◌<◌, ◌≤◌}
-use lib.ListN.{length, get_or, set, drop, length-append, length-map, drop_of_length-le}
-use lib.Seq.{sets}
-use Rattle.common.specs.Storing.{Puts}
-use Rattle.common.proofs.Lists.{sets-append}
-use Rattle.common.proofs.Storing.{then-put}
+use mathlib.Core.List.{List, [], ◌∷◌, ◌++◌, map, append-nil}
+use Prim.Native.Nat.{ℕ, zero, suc, ◌+◌, ◌*◌, ◌/◌, ◌%◌, ◌^◌, ◌<◌, ◌≤◌}
+use lib.ListN.{length, get_or, take, length-append, length-map}
+use lib.Seq.{take-suc, take_all, length-take-le}
+use Rattle.std.specs.Int.{w64, byte_at, bytes_low_first, to_le_bytes}
+use Rattle.std.proofs.lemmas.List.{map-append}
+use Rattle.common.specs.Storing.{Puts, PutsIfRoom}
+use Rattle.common.proofs.Storing.{then-put, had-room}
 use Rattle.take.specs.Bytes.{bytes_of}
-use Rattle.take.specs.Record.{unpacked}
-use Rattle.take.specs.File.{letters, records_bytes, trailer, file_of}
+use Rattle.take.specs.Record.{record_bytes, unpacked}
+use Rattle.take.specs.File.{records_bytes, trailer, file_of}
 use Rattle.take.specs.declared.Record.{Record}
 use Rattle.take.proofs.Records.{bytes-unpacked}
-use Rattle.take.proofs.FirstBad.{numbers_from}
 
--- a number: its first bytes are stored, and those of the rest are to come
-module _ (all out : List ℕ) (at width i rest : ℕ) (h : sets out (at + i) (bytes_of (width - i) rest) ≡ all) where
-  pub number_more : i < width → sets (set out (at + i) (rest % 256)) (at + (i + 1)) (bytes_of (width - (i + 1)) (rest / 256)) ≡ all
-  number_more l =
-      let e : width - i ≡ suc (width - (i + 1)) = omega arith in
-      let p : at + (i + 1) ≡ suc (at + i) = omega arith in
-      rw p (rw e at h)
-
-  pub number-all : width ≤ i → out ≡ all
-  number-all l =
-      let e : width - i ≡ 0 = omega arith in
-      rw e at h
-
-pub number-none : (l : List ℕ) (at width n : ℕ) → sets l (at + 0) (bytes_of (width - 0) n) ≡ sets l at (bytes_of width n)
-number-none l at width n = rw (add-zero, sub-zero)
+-- the bytes of a number, as the library has them
+low-first : (k i n : ℕ) → bytes_low_first i k n ≡ bytes_of k (n / 256 ^ i)
+low-first zero i n = refl
+low-first (suc k) i n =
+    let next : n / 256 ^ suc i ≡ n / 256 ^ i / 256 = rw (pow-suc, div-div-eq-div-mul) in
+    let here : byte_at i n ≡ n / 256 ^ i % 256 = byte_is i n in
+    rw (here, low-first k (suc i) n, next)
+  where
+    byte_is : (i n : ℕ) → byte_at i n ≡ n / 256 ^ i % 256
+    byte_is zero n = ap (λ m. m % 256) (sym (div-one n))
+    byte_is (suc i) n = refl
 
 -- records
 pub length-records : (rs : List Record) → length (records_bytes rs) ≡ 8 * length rs
 length-records [] = refl
 length-records (r ∷ rs) = omega (arith, length-records rs)
 
-module _ (all out ns : List ℕ) (at i : ℕ) (h : sets out at (records_bytes (map unpacked (drop i ns))) ≡ all) where
+records-append : (rs ss : List Record) → records_bytes (rs ++ ss) ≡ records_bytes rs ++ records_bytes ss
+records-append [] ss = refl
+records-append (r ∷ rs) ss = rw (records-append rs ss)
+
+-- those before a place are stored, and then the one there
+module _ {before out : List ℕ} {offset at i : ℕ} (ns : List ℕ) (p : Puts before offset (records_bytes (map unpacked (take i ns))) out at) where
   pub records-more :
-      (after : List ℕ) → i < length ns → get_or ns i 0 < 2 ^ 64 → after ≡ sets out at (bytes_of 8 (get_or ns i 0)) →
-      sets after (at + 8) (records_bytes (map unpacked (drop (i + 1) ns))) ≡ all
-  records-more after l w e =
-      let rest = records_bytes (map unpacked (drop (i + 1) ns)) in
-      let f : records_bytes (map unpacked (drop i ns)) ≡ bytes_of 8 (get_or ns i 0) ++ rest =
-      ap records_bytes (numbers_from ns i l refl) ∙ ap (λ bs. bs ++ rest) (bytes-unpacked (get_or ns i 0) w) in
-      ap (λ x. sets x (at + 8) rest) e ∙ sets-append (bytes_of 8 (get_or ns i 0)) rest out at ∙ ap (sets out at) (sym f) ∙ h
+      {bytes after : List ℕ} {next : ℕ} → i < length ns → get_or ns i 0 < 2 ^ 64 → offset + 8 * length ns ≤ length out →
+      bytes ≡ to_le_bytes w64 (get_or ns i 0) → PutsIfRoom out at bytes after next →
+      Puts before offset (records_bytes (map unpacked (take (i + 1) ns))) after next
+  records-more {bytes} {after} {next} l w room e q =
+      let n = get_or ns i 0 in
+      let whole : bytes ≡ record_bytes (unpacked n) = e ∙ low-first 8 0 n ∙ ap (bytes_of 8) (div-one n) ∙ sym (bytes-unpacked n w) in
+      let place : at ≡ offset + 8 * i = p.place ∙ rw (length-records (map unpacked (take i ns)), length-map (take i ns) unpacked, length-take-le i ns (omega arith)) in
+      let eight : at + length bytes ≤ length out = rw whole (omega arith) in
+      let more : take (i + 1) ns ≡ take i ns ++ (n ∷ []) = rw add-one (take-suc ns i 0 l) in
+      rw (more, map-append, records-append, append-nil, ← whole) (then-put p (had-room q eight))
 
-  pub records-all : length ns ≤ i → out ≡ all
-  records-all l = rw (drop_of_length-le ns l) at h
-
--- a trailer: its two numbers, and the letters as a third
-pub trailer-put :
-    (l one two after : List ℕ) (at count offset : ℕ) →
-    one ≡ sets l at (bytes_of 4 count) → two ≡ sets one (at + 4) (bytes_of 4 offset) → after ≡ sets two (at + 8) letters →
-    Puts l at (trailer count offset) after (at + 12)
-trailer-put l one two after at count offset e f g =
-    record {
-      stored =
-          g ∙ ap (λ x. sets x (at + 8) letters) f
-          ∙ rw (← eight) (sets-append (bytes_of 4 offset) letters one (at + 4))
-          ∙ ap (λ x. sets x (at + 4) (bytes_of 4 offset ++ letters)) e
-          ∙ sets-append (bytes_of 4 count) (bytes_of 4 offset ++ letters) l at;
-      place = refl;
-    }
-  where
-    eight : at + 4 + 4 ≡ at + 8
-    eight = omega arith
+  pub records-all : length ns ≤ i → Puts before offset (records_bytes (map unpacked ns)) out at
+  records-all l = let all : take i ns ≡ ns = take_all i ns l in rw all at p
 
 -- a file
 pub file_put :

@@ -1,30 +1,48 @@
 -- What the writer gives, by its tests.
-use borrow.Author.Tests.{eq-eqb, ne_eqb, leb-true}
+use borrow.Author.Tests.{eq-eqb, ne_eqb, leb-true, ltb-true}
 use native.Mathlib.Omega.{arith}
-use mathlib.Core.Path.{◌≡◌, refl, ◌∙◌}
+use mathlib.Core.Path.{◌≡◌, refl, sym, ◌∙◌}
 use mathlib.Core.Bool.{Bool, true, false}
 use mathlib.Core.List.{List, map}
-use Prim.Native.Nat.{ℕ, ◌+◌, ◌*◌, ◌≤◌}
-use lib.Dec.{leb, eqb}
+use Prim.Native.Nat.{ℕ, ◌+◌, ◌*◌, ◌^◌, ◌<◌, ◌≤◌}
+use lib.Dec.{leb, ltb, eqb}
 use lib.ListN.{length, length-map}
+use Rattle.std.specs.Prelude.{Option, None, Some}
+use Rattle.std.specs.Option.{unwrap_or}
+use Rattle.common.specs.Answers.{done}
+use Rattle.common.specs.Refusals.{number}
 use Rattle.common.specs.Storing.{Puts}
+use Rattle.common.specs.declared.answer.Refusal.{Refusal}
 use Rattle.common.proofs.Tests.{both_true}
 use Rattle.take.specs.Record.{unpacked, first_bad}
 use Rattle.take.specs.File.{file_of}
 use Rattle.take.specs.Write.{room_for, write_answer, Writing}
-use Rattle.take.specs.Parts.{fitting, measured_answer}
+use Rattle.take.specs.Parts.{fitting, measured_answer, FirstBad, Refused}
 use Rattle.take.specs.declared.Record.{Record}
 use Rattle.take.proofs.Storing.{length_file}
 
--- what is written has the room
-pub answer-room : {answer : ℕ} (bad offset count room : ℕ) → answer ≡ measured_answer bad offset count room → answer ≡ 0 → offset + 8 * count + 12 ≤ room
-unfolding measured_answer fitting
-answer-room bad offset count room e z = go (eqb bad 0) refl (fitting offset count room) refl
+-- what fits has the room, and numbers of 4 bytes
+pub record Fits (offset count room : ℕ) : Type 0 where
+  pub roomy : offset + 8 * count + 12 ≤ room
+  pub counted : count < 2 ^ 32
+  pub placed : offset < 2 ^ 32
+
+pub fits-so : (offset count room : ℕ) → fitting offset count room ≡ true → Fits offset count room
+unfolding fitting
+fits-so offset count room e =
+    let t = both_true (leb (offset + 8 * count + 12) room) _ e in
+    let u = both_true (ltb count (2 ^ 32)) _ t.1 in
+    record { roomy = leb-true _ _ t.0; counted = ltb-true _ _ u.0; placed = ltb-true _ _ u.1 }
+
+-- what is served fits
+pub served-fits : (bad : Option ℕ) (offset count room : ℕ) → measured_answer bad offset count room ≡ done → fitting offset count room ≡ true
+unfolding measured_answer
+served-fits (Some bad) offset count room e = absurd (omega arith)
+served-fits None offset count room e = go (fitting offset count room) refl
   where
-    go : (b : Bool) → eqb bad 0 ≡ b → (f : Bool) → fitting offset count room ≡ f → offset + 8 * count + 12 ≤ room
-    go false p f q = absurd (let y = simp p at e in omega arith)
-    go true p false q = absurd (let y = simp (p, q) at e in omega arith)
-    go true p true q = leb-true (offset + 8 * count + 12) room (both_true (leb (offset + 8 * count + 12) room) _ q).0
+    go : (f : Bool) → fitting offset count room ≡ f → fitting offset count room ≡ true
+    go true p = p
+    go false p = absurd (let y = simp p at e in omega arith)
 
 module _ (comment ns before : List ℕ) where
   abbrev rs : List Record
@@ -36,19 +54,34 @@ module _ (comment ns before : List ℕ) where
       let e : length rs ≡ length ns = length-map ns unpacked in
       rw (length_file comment rs, e)
 
-  module _ {bad answer : ℕ} (b : bad ≡ first_bad rs) (a : answer ≡ measured_answer bad (length comment) (length ns) (length before)) where
-    answer-is : answer ≡ write_answer comment rs (length before)
-    unfolding measured_answer write_answer
-    answer-is = a ∙ rw (b, fits-is)
+  answer-is : (bad : Option ℕ) → FirstBad rs bad → measured_answer bad (length comment) (length ns) (length before) ≡ write_answer comment rs (length before)
+  unfolding measured_answer write_answer
+  answer-is None b = simp (b, fits-is)
+  answer-is (Some bad) b = let t : eqb (first_bad rs) 0 ≡ false = rw b.0 (ne_eqb bad 0 b.1) in simp t
 
-    pub not_written : (answer ≡ 0 → ⊥) → Writing comment ns before before answer 0 bad
-    not_written n =
-        let t : eqb (write_answer comment rs (length before)) 0 ≡ false = rw (← answer-is) (ne_eqb answer 0 n) in
-        record { answered = answer-is; sized = simp t; bad_number = b; buffer = simp t }
+  bad-is : (bad : Option ℕ) → FirstBad rs bad → unwrap_or bad 0 ≡ first_bad rs
+  bad-is None b = sym b
+  bad-is (Some bad) b = sym b.0
+
+  none-bad :
+      (bad : Option ℕ) → FirstBad rs bad → measured_answer bad (length comment) (length ns) (length before) ≡ done → 0 ≡ first_bad rs
+  unfolding measured_answer
+  none-bad None b a = sym b
+  none-bad (Some bad) b a = absurd (omega arith)
+
+  module _ (bad : Option ℕ) (b : FirstBad rs bad) where
+    pub not_written :
+        (refusal : Refusal) → Refused (measured_answer bad (length comment) (length ns) (length before)) refusal →
+        Writing comment ns before before (number refusal) 0 (unwrap_or bad 0)
+    not_written refusal a =
+        let t : eqb (write_answer comment rs (length before)) 0 ≡ false = rw (← (answer-is bad b)) a.1 in
+        record { answered = sym a.0 ∙ answer-is bad b; sized = simp t; bad_number = bad-is bad b; buffer = simp t }
 
     pub written :
-        {after : List ℕ} {size : ℕ} → answer ≡ 0 → Puts before 0 (file_of comment rs) after size → Writing comment ns before after answer size bad
-    written {size = size} z p =
-        let t : eqb (write_answer comment rs (length before)) 0 ≡ true = rw (← answer-is) (eq-eqb answer 0 z) in
+        {after : List ℕ} {size : ℕ} → measured_answer bad (length comment) (length ns) (length before) ≡ done →
+        Puts before 0 (file_of comment rs) after size → Writing comment ns before after 0 size 0
+    written {size = size} a p =
+        let d : write_answer comment rs (length before) ≡ 0 = sym (answer-is bad b) ∙ a in
+        let t : eqb (write_answer comment rs (length before)) 0 ≡ true = eq-eqb _ _ d in
         let s : size ≡ length (file_of comment rs) = omega (arith, p.place) in
-        record { answered = answer-is; sized = simp t s; bad_number = b; buffer = simp t p.stored }
+        record { answered = sym d; sized = simp t s; bad_number = none-bad bad b a; buffer = simp t p.stored }

@@ -4,6 +4,7 @@
 
 mod bytes;
 mod first_bad;
+pub mod kind;
 mod trailer;
 mod writer;
 
@@ -11,8 +12,10 @@ ghost use Rattle.std.specs.Prelude.{◌≡◌};
 ghost use Rattle.take.specs.Record.{packed, unpacked};
 ghost use Rattle.take.specs.Contract.{WritesTake};
 ghost use Rattle.take.specs.Open.{Opening, comment_of, no_record, ReadsRecord, record_from};
+ghost use Rattle.take.specs.Parts.{Reads};
+ghost use Rattle.common.specs.Refusals.{number};
 
-use common::answer::{BAD_RECORD, DONE, NOTHING_THERE};
+use common::answer::{DONE, Refusal};
 
 // One call of a take.
 #[repr(C)]
@@ -25,26 +28,42 @@ pub struct Record {
 }
 
 // The record as a number of 64 bits.
-pub fn pack(entry: Record) -> u64
-    ensures { result ≡ packed entry }
-{
-    entry.line as u64
-        + entry.kind as u64 * 0x1_0000_0000
-        + entry.address as u64 * 0x100_0000_0000
-        + entry.value as u64 * 0x100_0000_0000_0000
+impl From<Record> for u64 {
+    ghost from_gives = { λ entry number. number ≡ packed entry };
+
+    fn from(entry: Record) -> u64 {
+        entry.line as u64
+            + entry.kind as u64 * 0x1_0000_0000
+            + entry.address as u64 * 0x100_0000_0000
+            + entry.value as u64 * 0x100_0000_0000_0000
+    }
 }
 
 // The record in a number of 64 bits.
 #[tactic(auto, unfolding(crate::specs::Record::unpacked))]
+impl From<u64> for Record {
+    ghost from_gives = { λ number entry. entry ≡ unpacked number };
+
+    fn from(number: u64) -> Record {
+        Record {
+            line: (number % 0x1_0000_0000) as u32,
+            kind: (number / 0x1_0000_0000 % 0x100) as u8,
+            address: (number / 0x100_0000_0000 % 0x1_0000) as u16,
+            value: (number / 0x100_0000_0000_0000 % 0x100) as u8,
+        }
+    }
+}
+
+pub fn pack(entry: Record) -> u64
+    ensures { result ≡ packed entry }
+{
+    u64::from(entry)
+}
+
 pub fn unpack(number: u64) -> Record
     ensures { result ≡ unpacked number }
 {
-    Record {
-        line: (number % 0x1_0000_0000) as u32,
-        kind: (number / 0x1_0000_0000 % 0x100) as u8,
-        address: (number / 0x100_0000_0000 % 0x1_0000) as u16,
-        value: (number / 0x100_0000_0000_0000 % 0x100) as u8,
-    }
+    Record::from(number)
 }
 
 // What the writer gives: the answer, the length of the file, and the number of the first bad record.
@@ -61,16 +80,19 @@ pub fn write(comment: &[u8], records: &[u64], output: &mut [u8]) -> Written
     ensures { WritesTake comment.now records.now output.old output.new result.answer result.size result.bad }
 {
     let bad = first_bad::of_numbers(records);
-    let answer = writer::answer(bad, comment.len(), records.len(), output.len());
-    if answer != DONE {
+    if let Err(refusal) = writer::answer(bad, comment.len(), records.len(), output.len()) {
         return Written {
-            answer,
+            answer: refusal.number(),
             size: 0,
-            bad,
+            bad: bad.unwrap_or(0),
         };
     }
     let size = writer::put_file(comment, records, output);
-    Written { answer, size, bad }
+    Written {
+        answer: DONE,
+        size,
+        bad: 0,
+    }
 }
 
 // What opening gives: the answer, the number of the first bad record, the record count and the offset of the first record.
@@ -83,28 +105,28 @@ pub struct Opened {
     pub offset: usize,
 }
 
+// Where opening is refused: why, and the number of the first bad record or 0.
+fn not_opened(refusal: Refusal, bad: usize) -> Opened
+    ensures { result ≡ record { answer = number refusal; bad = bad; count = 0; offset = 0 } }
+{
+    Opened {
+        answer: refusal.number(),
+        bad,
+        count: 0,
+        offset: 0,
+    }
+}
+
 // Tests the whole of a take.
 pub fn open(file: &[u8]) -> Opened
     ensures { Opening file.now result.answer result.bad result.count result.offset }
 {
-    let ends = trailer::trailer(file);
-    let answer = ends.answer;
-    if answer != DONE {
-        return Opened {
-            answer,
-            bad: 0,
-            count: 0,
-            offset: 0,
-        };
-    }
-    let bad = first_bad::of_file(file, ends.offset, ends.count);
-    if bad != 0 {
-        return Opened {
-            answer: BAD_RECORD,
-            bad,
-            count: 0,
-            offset: 0,
-        };
+    let ends = match trailer::trailer(file) {
+        Ok(ends) => ends,
+        Err(refusal) => return not_opened(refusal, 0),
+    };
+    if let Some(bad) = first_bad::of_file(file, ends) {
+        return not_opened(Refusal::BadRecord, bad);
     }
     Opened {
         answer: DONE,
@@ -118,8 +140,7 @@ pub fn open(file: &[u8]) -> Opened
 pub fn comment(file: &[u8]) -> &[u8]
     ensures { result.now ≡ comment_of file.now }
 {
-    let opened = open(file);
-    let offset = opened.offset;
+    let offset = open(file).offset;
     &file[..offset]
 }
 
@@ -131,31 +152,37 @@ pub struct RecordRead {
     pub entry: Record,
 }
 
-fn no_record(answer: u8) -> RecordRead
-    ensures { (result.answer ≡ answer) × (result.entry ≡ no_record) }
+// Where it is refused.
+fn no_record(refusal: Refusal) -> RecordRead
+    ensures { (result.answer ≡ number refusal) × (result.entry ≡ no_record) }
 {
-    let entry = unpack(0);
-    RecordRead { answer, entry }
+    RecordRead {
+        answer: refusal.number(),
+        entry: Record::from(0),
+    }
 }
 
-// The record with this number, from 1.
+// The record with this number, from 1, or why there is none.
+fn read(file: &[u8], number: usize) -> Result<Record, Refusal>
+    ensures { Reads file.now number result }
+{
+    let ends = trailer::trailer(file)?;
+    if number == 0 || ends.count < number {
+        return Err(Refusal::NothingThere);
+    }
+    Ok(bytes::record_from(file, ends.offset + 8 * (number - 1)))
+}
+
+// The same, as C gets it.
 pub fn record_at(file: &[u8], number: usize) -> RecordRead
     ensures { ReadsRecord file.now number result.answer result.entry }
 {
-    let ends = trailer::trailer(file);
-    if ends.answer != DONE {
-        return no_record(ends.answer);
-    }
-    if number == 0 {
-        return no_record(NOTHING_THERE);
-    }
-    if ends.count < number {
-        return no_record(NOTHING_THERE);
-    }
-    let entry = bytes::record_from(file, ends.offset + 8 * (number - 1));
-    RecordRead {
-        answer: DONE,
-        entry,
+    match read(file, number) {
+        Ok(entry) => RecordRead {
+            answer: DONE,
+            entry,
+        },
+        Err(refusal) => no_record(refusal),
     }
 }
 
@@ -164,12 +191,8 @@ pub fn record_at(file: &[u8], number: usize) -> RecordRead
 pub fn record_from(file: &[u8], at: usize) -> Record
     ensures { result ≡ record_from file.now at }
 {
-    let length = file.len();
-    if length < 8 {
-        return unpack(0);
-    }
-    if length - 8 < at {
-        return unpack(0);
+    if file.len() < 8 || file.len() - 8 < at {
+        return Record::from(0);
     }
     bytes::record_from(file, at)
 }

@@ -4,51 +4,38 @@ ghost use Rattle.take.specs.Open.{has_trailer};
 ghost use Rattle.take.specs.Parts.{Ending};
 
 use crate::bytes;
-use common::answer::{DONE, NO_TRAILER, NOT_MET};
+use common::answer::Refusal;
 
-// The answer by the trailer alone, and its count and offset where it is met, else 0.
+// The letters that end a take.
+pub const LETTERS: [u8; 4] = *b"PLTK";
+
+// The record count and the offset of the first record.
 #[derive(Clone, Copy)]
 pub struct Ends {
-    pub answer: u8,
     pub count: usize,
     pub offset: usize,
 }
 
-#[tactic(auto, using(crate::proofs::Trailers::short))]
+// Whether a file ends with a trailer: 12 bytes, of which the letters are the last.
+#[tactic(auto, using(crate::proofs::Trailers::short, crate::proofs::Trailers::tested))]
 fn has_trailer(file: &[u8]) -> bool
     ensures { result ≡ has_trailer file.now }
 {
-    let length = file.len();
-    if length < 12 {
-        return false;
-    }
-    bytes::number_at(file, length - 4, 4) == bytes::LETTERS
+    12 <= file.len() && file.ends_with(&LETTERS)
 }
 
-// What the trailer of a file says.
-pub fn trailer(file: &[u8]) -> Ends
-    ensures { Ending file.now result.answer result.count result.offset }
+// What the trailer of a file says, where its records meet it.
+pub fn trailer(file: &[u8]) -> Result<Ends, Refusal>
+    ensures { Ending file.now result }
 {
     if !has_trailer(file) {
-        return Ends {
-            answer: NO_TRAILER,
-            count: 0,
-            offset: 0,
-        };
+        return Err(Refusal::NoTrailer);
     }
     let end = file.len() - 12;
-    let count = bytes::number_at(file, end, 4) as usize;
-    let offset = bytes::number_at(file, end + 4, 4) as usize;
+    let count = bytes::number_at(file, end) as usize;
+    let offset = bytes::number_at(file, end + 4) as usize;
     if offset + 8 * count != end {
-        return Ends {
-            answer: NOT_MET,
-            count: 0,
-            offset: 0,
-        };
+        return Err(Refusal::NotMet);
     }
-    Ends {
-        answer: DONE,
-        count,
-        offset,
-    }
+    Ok(Ends { count, offset })
 }

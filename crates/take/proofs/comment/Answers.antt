@@ -5,7 +5,7 @@ use Rattle.take.proofs.Opening.{offset_in, comment_is}
 use Rattle.take.proofs.comment.Goals as goal
 
 pub slice_bounds-result-end : goal.slice_bounds-result-end
-slice_bounds-result-end c = let h = offset_in c.open-opened.ensures in sym (length-take-le _ _ (omega arith))
+slice_bounds-result-end c = let h = offset_in c.open-offset.ensures in sym (length-take-le _ _ (omega arith))
 
 pub returns : goal.returns
-returns c = comment_is c.open-opened.ensures
+returns c = comment_is c.open-offset.ensures

@@ -1,21 +1,10 @@
--- What is left begins with the record that is read here.
-use Rattle.std.proofs.Common.{rules}
-use Rattle.take.proofs.FirstBad.{searched_none, found, passed, records-none, records-from}
+-- The records are those that stand one after the other.
+use Rattle.std.proofs.Common.{rules, drop}
+use Rattle.take.specs.Open.{records_from}
+use Rattle.take.proofs.Opening.{length_from, read-at}
 use Rattle.take.proofs.first_bad.of_file.Goals as goal
 
-pub loop-passed-init : goal.loop-passed-init
-loop-passed-init c = (search rules, rw (records-none _ _ _) (searched_none _))
-
-pub returns-then-is_bad : goal.returns-then-is_bad
-returns-then-is_bad c =
-    let l = c.loop-passed in
-    found l.invariant.1 (records-from c.args.file.now c.args.offset c.args.count l.passed (search rules) c.record_from-entry.ensures)
-    c.is_bad.ensures (search rules)
-
-pub loop-passed-preserved : goal.loop-passed-preserved
-loop-passed-preserved c =
-    let l = c.loop-passed in (
-      search rules,
-      passed l.invariant.1 (records-from c.args.file.now c.args.offset c.args.count l.passed (search rules) c.record_from-entry.ensures)
-          c.is_bad.ensures (search rules),
-    )
+pub returns : goal.returns
+returns c =
+    let bytes = drop c.args.ends.offset c.args.file.now in
+    c.first_bad.ensures (records_from c.args.ends.count bytes) (record { many = length_from c.args.ends.count bytes; each = λ i r h e. rw (read-at c.args.file.now c.args.ends.offset c.args.ends.count i h) (search rules) })

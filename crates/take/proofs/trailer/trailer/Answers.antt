@@ -19,12 +19,12 @@ number_at-offset-requires c =
 
 pub returns-then-offset-count : goal.returns-then-offset-count
 returns-then-offset-count c =
-    let p = c.number_at-count.ensures.0 in
-    let q = offset-after c.args.file.now c.number_at-offset.ensures.0 in
+    let p = c.number_at-count.ensures in
+    let q = offset-after c.args.file.now c.number_at-offset.ensures in
     not_met _ (search rules) (meets_not _ p q (λ e. omega arith))
 
 pub returns : goal.returns
 returns c =
-    let p = c.number_at-count.ensures.0 in
-    let q = offset-after c.args.file.now c.number_at-offset.ensures.0 in
-    met _ (search rules) (meets-is _ p q (omega arith)) p q
+    let p = c.number_at-count.ensures in
+    let q = offset-after c.args.file.now c.number_at-offset.ensures in
+    met _ p q (search rules) (meets-is _ p q (omega arith))

@@ -2,7 +2,7 @@
 use Rattle.std.proofs.Common.{arith, rules}
 use Rattle.take.specs.Record.{Within}
 use Rattle.take.proofs.Records.{packed-sum}
-use Rattle.take.proofs.pack.Goals as goal
+use Rattle.take.proofs.U64FromRecord.from.Goals as goal
 
 pub returns : goal.returns
 returns c =
