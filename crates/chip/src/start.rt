@@ -4,6 +4,7 @@ ghost use Rattle.chip.specs.Reset.{reset_sound, Reset};
 
 use crate::{Chip, Crtc, Editing, Gate, Interrupts};
 use crtc::{Counters, Registers, Video};
+use editors::Table;
 use lists::Area;
 use lock::Lock;
 use picture::sprite::Sprite;
@@ -76,7 +77,7 @@ pub fn reset() -> Chip
     let sprites = [sprite; 16];
     let palette = [0u8; 64];
     let lock = Lock::new();
-    let table = editors::no_table();
+    let table = Table::no_table();
     Chip {
         lock,
         gate: Gate {

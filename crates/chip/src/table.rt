@@ -6,7 +6,7 @@ ghost use Rattle.chip.specs.Editors.{undo_of, editing_with, started};
 
 use crate::{Answered, Chip, Editing};
 use common::answer::DONE;
-use editors::{Editor, Owners};
+use editors::{Editor, Owners, Table};
 use ring::Undo;
 
 // The state of an editor's record.
@@ -42,7 +42,7 @@ pub fn start(mut chip: Chip, owners: Owners) -> Answered
     ensures { Answers done (started chip owners) chip result }
 {
     let lists = chip.editing.lists;
-    let table = editors::holding(owners);
+    let table = Table::holding(owners);
     let editing = Editing {
         table,
         song: Undo { next: 0, count: 0 },

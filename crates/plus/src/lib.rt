@@ -29,7 +29,7 @@ ghost use Rattle.plus.specs.Built.{Built};
 
 use chip::{Acknowledged, Answered, Chip};
 use common::answer::DONE;
-use editors::Owners;
+use editors::{Editor, Owners};
 use listing::{Printed, ReadBack};
 use mend::{Change, Mended};
 use page::ByteRead;
@@ -119,7 +119,7 @@ pub fn plus_start(chip: Chip, owners: Owners) -> Answered
 pub fn plus_page_read(chip: Chip, editor: u8, store: &[u8], address: u16, bus: u8) -> ByteRead
     ensures { Reads chip (editor_by editor) store.now address bus result }
 {
-    page::page_read(chip, editors::editor_by(editor), store, address, bus)
+    page::page_read(chip, Editor::from(editor), store, address, bus)
 }
 
 // A byte that an editor writes to the page, and the write kept for its undo.
@@ -135,7 +135,7 @@ pub fn plus_page_write(
 {
     page::page_write(
         chip,
-        editors::editor_by(editor),
+        Editor::from(editor),
         store,
         places,
         address,
@@ -147,7 +147,7 @@ pub fn plus_page_write(
 pub fn plus_undo(chip: Chip, editor: u8, store: &mut [u8], places: &[u32; 256]) -> Answered
     ensures { UndoTold chip (editor_by editor) store.old places.now store.new result }
 {
-    page::undo(chip, editors::editor_by(editor), store, places)
+    page::undo(chip, Editor::from(editor), store, places)
 }
 
 // Gives the area of RAM for lists, by its bounds.

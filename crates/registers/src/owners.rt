@@ -11,7 +11,7 @@ use editors::{Editor, Table};
 fn owns_bit(table: Table, editor: Editor, owners: u32, n: usize) -> bool
     ensures { result ≡ mine table editor (bit n owners) }
 {
-    editors::mine(table, editor, common::bit_at(owners, n))
+    table.mine(editor, common::bit_at(owners, n))
 }
 
 // Whether channel n is the editor's.
@@ -29,7 +29,7 @@ pub fn owns(table: Table, editor: Editor, register: Register) -> bool
         Register::Pixel(i) => owns_bit(table, editor, u32::from(table.sprites), i / 256),
         Register::Sprite(n, _) => owns_bit(table, editor, u32::from(table.sprites), n),
         Register::Palette(i) => owns_bit(table, editor, table.palette, i / 2),
-        Register::Video(_) => editors::mine(table, editor, true),
+        Register::Video(_) => table.mine(editor, true),
         Register::Ivr => !table.held,
         Register::Channel(n, _) => owns_channel(table, editor, n),
         Register::Converter | Register::Dcsr | Register::Status | Register::Empty => false,

@@ -3,4 +3,4 @@ use Rattle.plus.proofs.Undo.{told}
 use Rattle.plus.proofs.plus_undo.Goals as goal
 
 pub returns : goal.returns
-returns c = told (rw c.editor_by.ensures at c.undo.ensures)
+returns c = told (rw c.from.ensures at c.undo.ensures)
