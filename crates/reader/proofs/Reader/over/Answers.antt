@@ -1,7 +1,6 @@
 -- A reader made at the first place hands out what the law says.
-use Rattle.std.proofs.Common.{rules}
 use Rattle.reader.proofs.HandedOut.{reads-take}
 use Rattle.reader.proofs.Reader.over.Goals as goal
 
 pub returns : goal.returns
-returns c = reads-take c.args.file c.make.result (search rules)
+returns c = rw c.first_at.ensures (reads-take c.args.file)
