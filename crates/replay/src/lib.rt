@@ -11,12 +11,14 @@ ghost use Rattle.replay.specs.Parts.{progress_by, lines_on, record_replayed, Roo
 ghost use Rattle.replay.specs.Contract.{Replays};
 
 use chip::{Answered, Chip};
-use common::answer::{DONE, WRONG_LENGTH};
+use common::answer::{DONE, Refusal};
 use common::size::{RAM, STORE};
 use editors::{Editor, Owners};
-use reader::Found;
+use reader::Reader;
 use sound::{Access, Accesses};
+use std::convert::TryFrom;
 use take::Record;
+use take::kind::Kind;
 
 // What replay gives: the chip, the answer, the number of the first bad record, the lines stepped, and how often each refusal number
 // came, at the place of that number.
@@ -47,8 +49,7 @@ fn lines_on(mut chip: Chip, ram: &[u8], from: u32, to: u32) -> Chip
     let mut sound = chip.sound;
     let mut crtc = chip.crtc;
     let mut raster = chip.interrupts.raster;
-    let mut at = from;
-    while at < to {
+    for _ in from..to {
         let off = Accesses {
             first: Access::Off,
             second: Access::Off,
@@ -59,7 +60,6 @@ fn lines_on(mut chip: Chip, ram: &[u8], from: u32, to: u32) -> Chip
         let counters = line.counters;
         crtc.counters = counters;
         raster = line.raster | raster;
-        at += 1;
     }
     chip.sound = sound;
     chip.crtc = crtc;
@@ -67,36 +67,18 @@ fn lines_on(mut chip: Chip, ram: &[u8], from: u32, to: u32) -> Chip
     chip
 }
 
-// The line number after that: one that is passed already stays.
-fn later(from: u32, to: u32) -> u32
-    ensures { result ≡ later from to }
-{
-    if from < to {
-        return to;
-    }
-    from
-}
-
 // An acknowledge, without its vector.
 fn acknowledged(chip: Chip) -> Answered
     ensures { Answers (acknowledge_answer chip) (acknowledged chip) chip result }
 {
     let told = chip::acknowledge::acknowledge(chip);
-    let after = told.chip;
     Answered {
         answer: told.answer,
-        chip: after,
+        chip: told.chip,
     }
 }
 
-// What is no call changes nothing.
-fn no_call(chip: Chip) -> Answered
-    ensures { (result.answer ≡ 0) × (result.chip ≡ chip) }
-{
-    Answered { answer: DONE, chip }
-}
-
-// The call that a record names.
+// The call that a record names. A kind that no call has changes nothing.
 fn called(
     chip: Chip,
     store: &mut [u8],
@@ -107,35 +89,40 @@ fn called(
 ) -> Answered
     ensures { Calls chip store.old song.old picture.old owners entry store.new song.new picture.new result }
 {
-    let kind = entry.kind;
+    let Ok(kind) = Kind::try_from(entry.kind) else {
+        return Answered { answer: DONE, chip };
+    };
     let value = entry.value;
     match kind {
-        1 => chip::ports::write_bc(chip, value),
-        2 => chip::ports::write_bd(chip, value),
-        3 => chip::ports::write_7f(chip, value),
-        4 => page::page_write(chip, Editor::Song, store, song, entry.address, value),
-        5 => acknowledged(chip),
-        6 => page::undo(chip, Editor::Song, store, song),
-        7 => page::page_write(chip, Editor::Picture, store, picture, entry.address, value),
-        8 => page::undo(chip, Editor::Picture, store, picture),
-        9 => chip::table::start(chip, owners),
-        10 => chip::mute::mute(chip, entry.address, value == 1),
-        _ => no_call(chip),
+        Kind::WriteBc => chip::ports::write_bc(chip, value),
+        Kind::WriteBd => chip::ports::write_bd(chip, value),
+        Kind::Write7f => chip::ports::write_7f(chip, value),
+        Kind::SongWrite => page::page_write(chip, Editor::Song, store, song, entry.address, value),
+        Kind::Acknowledge => acknowledged(chip),
+        Kind::SongUndo => page::undo(chip, Editor::Song, store, song),
+        Kind::PictureWrite => page::page_write(
+            chip,
+            Editor::Picture,
+            store,
+            picture,
+            entry.address,
+            value,
+        ),
+        Kind::PictureUndo => page::undo(chip, Editor::Picture, store, picture),
+        Kind::Start => chip::table::start(chip, owners),
+        Kind::Mute => chip::mute::mute(chip, entry.address, value == 1),
     }
 }
 
 // A refusal counted at its number.
-fn refusal_counted(counts: [u32; 24], answer: u8) -> [u32; 24]
+fn refusal_counted(mut counts: [u32; 24], answer: u8) -> [u32; 24]
     requires { (answer < 24) × Room counts }
     ensures { result ≡ refusal_counted counts answer }
 {
-    if answer == DONE {
-        return counts;
+    if answer != DONE {
+        counts[answer as usize] += 1;
     }
-    let mut next = counts;
-    let place = answer as usize;
-    next[place] += 1;
-    next
+    counts
 }
 
 // One record: its line is reached, then its call is made.
@@ -153,13 +140,10 @@ fn record_replayed(
 {
     let chip = lines_on(p.chip, ram, p.lines, entry.line);
     let told = called(chip, store, song, picture, owners, entry);
-    let before = p.counts;
-    let counts = refusal_counted(before, told.answer);
-    let after = told.chip;
     Player {
-        chip: after,
-        lines: later(p.lines, entry.line),
-        counts,
+        chip: told.chip,
+        lines: p.lines.max(entry.line),
+        counts: refusal_counted(p.counts, told.answer),
     }
 }
 
@@ -186,30 +170,27 @@ fn records(
     requires { (length ram.now ≡ 65536) × Opened file.now }
     ensures { progress_by result ram.now store.new song.new picture.new ≡ replayed owners (fresh ram.now store.old song.old picture.old) (records_of file.now) }
 {
-    let mut at = reader::first_place(file);
     let mut p = begun();
-    loop {
-        let step = reader::advance(file, at);
-        let found = step.found;
-        let Found::One(entry) = found else {
-            return p;
-        };
+    for entry in Reader::over(file) {
         p = record_replayed(p, ram, store, song, picture, owners, entry);
-        at = step.at;
     }
+    p
 }
 
 // What replay gives: this answer, and how far it is.
 fn told(answer: u8, bad: usize, p: Player) -> Replayed
     ensures { Tells answer bad p result }
 {
-    let chip = p.chip;
-    let counts = p.counts;
+    let Player {
+        chip,
+        lines,
+        counts,
+    } = p;
     Replayed {
         chip,
         answer,
         bad,
-        lines: p.lines,
+        lines,
         counts,
     }
 }
@@ -225,16 +206,12 @@ pub fn replay(
 ) -> Replayed
     ensures { Replays ram.now store.old song.old picture.old owners file.now store.new song.new picture.new result }
 {
-    if ram.len() != RAM {
-        return told(WRONG_LENGTH, 0, begun());
-    }
-    if store.len() != STORE {
-        return told(WRONG_LENGTH, 0, begun());
+    if ram.len() != RAM || store.len() != STORE {
+        return told(Refusal::WrongLength.number(), 0, begun());
     }
     let opened = take::open(file);
-    let answer = opened.answer;
-    if answer != DONE {
-        return told(answer, opened.bad, begun());
+    if opened.answer != DONE {
+        return told(opened.answer, opened.bad, begun());
     }
     let end = records(ram, store, song, picture, owners, file);
     told(DONE, 0, end)
