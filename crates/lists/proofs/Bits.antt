@@ -1,6 +1,7 @@
 -- The bits of a number: one set, one cleared, the lowest that is 0, and those above its highest.
-use Rattle.std.proofs.Common.{◌≡◌, ℕ, ◌+◌, ◌-◌, ◌*◌, ◌/◌, ◌^◌, ◌<◌, ◌≤◌, max, true, false, eqb, sym, ap, ◌∙◌, arith, eqb-true, pow_pos, div-lt_iff_lt-mul}
-use Rattle.std.proofs.lemmas.Nat.{and_le_l}
+use Rattle.std.proofs.Common.{◌≡◌, ℕ, ◌+◌, ◌-◌, ◌*◌, ◌/◌, ◌^◌, ◌<◌, ◌≤◌, max, true, false, eqb, sym, ap, ◌∙◌, arith, eqb-true, pow_pos}
+use Rattle.std.proofs.lemmas.Nat.{and_le_l, leading_length}
+use Rattle.std.specs.Int.Count.{count_leading_zeros}
 use Rattle.std.proofs.lemmas.Nat.Bits.{bit_at_or, bit_at-pow_other, bit_at-zero, bit_at_above, and_pow}
 use Rattle.std.proofs.Math.Nat.{max-zero, zero-mul, one-mul, div-eq-sub-div}
 use Rattle.std.proofs.Math.Pow.{pow-lt}
@@ -52,8 +53,8 @@ less-others h x b k other =
 pub none-on : (k : ℕ) → bit k 0 ≡ false
 none-on k = ap (λ n. eqb n 1) (bit_at-zero k)
 
--- where nothing is left above a bit, no bit from there on is 1
-pub none_above : (x n : ℕ) → x / 2 ^ n ≡ 0 → (k : ℕ) → n ≤ k → bit k x ≡ false
-none_above x n none k h =
-    let below : x < 1 * 2 ^ n = (div-lt_iff_lt-mul {x = x} {y = 1} (pow_pos n)).0 (omega arith) in
-    ap (λ n. eqb n 1) (bit_at_above x n k (rw one-mul at below) h)
+-- no bit above the highest is 1
+pub none_above : (x : ℕ) → x < 2 ^ 64 → (k : ℕ) → 64 - count_leading_zeros 64 x ≤ k → bit k x ≡ false
+none_above x small k high =
+    let top = leading_length 64 x small in
+    ap (λ n. eqb n 1) (bit_at_above x top.0 k top.2 (omega arith))

@@ -174,10 +174,9 @@ impl Area {
             address: from,
             above: u32::MAX,
         };
-        for (k, place) in places.iter().enumerate() {
-            if self.used >> k == 0 {
-                return at;
-            }
+        // from there on no handle has a list
+        let end = 64 - self.used.leading_zeros() as usize;
+        for (k, place) in places[..end].iter().enumerate() {
             if (self.used >> k) % 2 == 1 {
                 at = at.past(*place, bytes);
             }

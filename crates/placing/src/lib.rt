@@ -10,8 +10,8 @@ ghost use Rattle.placing.specs.InUse.{used_by, in_use_of};
 ghost use Rattle.placing.specs.Contract.{GivesArea, PlacesList, RemovesList};
 
 use chip::{Answered, Chip};
-use common::answer::{DONE, Refusal};
-use lists::Area;
+use common::answer::{Refusal, answer_number};
+use lists::{Area, NewList};
 use sound::{Channel, Sound};
 
 // What placing gives: the chip, the answer, and where it is served the list's address and handle.
@@ -37,15 +37,9 @@ fn changed(chip: Chip, change: Result<Area, Refusal>) -> Answered
     ensures answer { result.answer ≡ (told (lists_of chip) change).answer }
     ensures chip { result.chip ≡ with_lists chip (told (lists_of chip) change).area }
 {
-    match change {
-        Ok(lists) => Answered {
-            chip: with_lists(chip, lists),
-            answer: DONE,
-        },
-        Err(refusal) => Answered {
-            chip,
-            answer: refusal.number(),
-        },
+    Answered {
+        chip: with_lists(chip, change.unwrap_or(chip.editing.lists)),
+        answer: answer_number(change.map(|_| ())),
     }
 }
 
@@ -60,19 +54,17 @@ pub fn area(chip: Chip, from: u32, upto: u32) -> Answered
 pub fn place(chip: Chip, places: &mut [u32; 64], ram: &mut [u8], list: &[u8]) -> PlacedList
     ensures { PlacesList chip places.old ram.old list.now places.new ram.new result }
 {
-    match lists::place(chip.editing.lists, places, ram, list) {
-        Ok(new) => PlacedList {
-            chip: with_lists(chip, new.area),
-            answer: DONE,
-            address: new.address,
-            handle: new.handle,
-        },
-        Err(refusal) => PlacedList {
-            chip,
-            answer: refusal.number(),
-            address: 0,
-            handle: 0,
-        },
+    let placed = lists::place(chip.editing.lists, places, ram, list);
+    let new = placed.unwrap_or(NewList {
+        area: chip.editing.lists,
+        address: 0,
+        handle: 0,
+    });
+    PlacedList {
+        chip: with_lists(chip, new.area),
+        answer: answer_number(placed.map(|_| ())),
+        address: new.address,
+        handle: new.handle,
     }
 }
 
