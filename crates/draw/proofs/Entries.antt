@@ -2,7 +2,6 @@
 use mathlib.Core.Path.{◌≡◌, refl, ◌∙◌}
 use mathlib.Core.List.{List}
 use Prim.Native.Nat.{ℕ, ◌+◌, ◌-◌, ◌<◌, ◌≤◌}
-use borrow.Author.Count.{below_more}
 use borrow.Author.Tests.{ne_eqb, lt-ltb, le-ltb, le-leb, lt-leb}
 use native.Mathlib.Omega.{arith}
 use borrow.Rule.Slice.PartMut.{put_mid}
@@ -26,23 +25,8 @@ use Rattle.draw.specs.declared.Edges.{Edges}
 use Rattle.draw.specs.declared.Main.{Main}
 use Rattle.draw.specs.Mixing.{main_at, over_at, covered_at, mixed_at, Has, Changed}
 
-pub has-none : (f : ℕ → ℕ) (l : List ℕ) → Has f 0 l
-has-none f l = record { entry = λ p h. absurd (omega arith) }
-
--- one entry more
-pub has_more : {f : ℕ → ℕ} {x : ℕ} {l : List ℕ} {v : ℕ} → Has f x l → v ≡ f x → x < length l → Has f (x + 1) (set l x v)
-has_more {f} {x} {l} {v} has here inside =
-    record {
-      entry =
-          below_more _ x (λ p h. get_or-set_other l x p v 0 (λ e. omega arith) ∙ has.entry p h)
-          (get_or-set_same l x v 0 inside ∙ here);
-    }
-
 -- a part that is changed from its start on
 module _ {f : ℕ → ℕ → ℕ} {from : ℕ} {before : List ℕ} where
-  pub changed-none : Changed f from from before before
-  changed-none = record { inside = λ x g h. absurd (omega arith); below = λ x h. refl; beyond = λ x h. refl }
-
   module _ {x : ℕ} {l : List ℕ} (c : Changed f from x before l) where
     -- one entry more: written, or right as it stands
     pub changed-more : {v : ℕ} → from ≤ x → x < length l → v ≡ f x (get_or before x 0) → Changed f from (x + 1) before (set l x v)

@@ -1,4 +1,3 @@
--- What the proofs share: small numbers, one entry more, and a line's entries from its parts.
-pub mod Turns
+-- What the proofs share: one entry more, and a line's entries from its parts.
 pub mod Entries
 pub mod Parts

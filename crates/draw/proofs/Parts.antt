@@ -2,9 +2,8 @@
 use mathlib.Core.Path.{◌≡◌, refl, sym, ◌∙◌}
 use mathlib.Core.Bool.{Bool, true, false}
 use mathlib.Core.List.{List}
-use Prim.Native.Nat.{ℕ, ◌+◌, ◌*◌, ◌/◌, ◌%◌, ◌<◌, ◌≤◌}
+use Prim.Native.Nat.{ℕ, ◌*◌, ◌/◌, ◌%◌, ◌<◌}
 use native.Mathlib.Omega.{arith}
-use native.Mathlib.Nat.{mul-le-mul}
 use borrow.Author.Tests.{eqb-true, le-ltb, le-leb, lt-leb}
 use lib.Dec.{eqb, leb, ltb}
 use lib.ListN.{length}
@@ -21,12 +20,6 @@ use Rattle.draw.specs.declared.Edges.{Edges}
 use Rattle.draw.specs.declared.Main.{Main}
 use Rattle.draw.specs.Drawing.{draw_answer, all_border, is_border, frame_line, main_pen, screen_pen, entry_at, Draws}
 use Rattle.draw.specs.Mixing.{left_of, right_of, outside, main_at, over_at, mixed_at, Has}
-
--- VC x (R9 + 1) + RC of bytes has 16 bits
-pub line_small : (vc r9 rc : ℕ) → vc < 256 → r9 < 256 → rc < 256 → vc * (r9 + 1) + rc < 65536
-line_small vc r9 rc hv hr hc =
-    let most : vc * (r9 + 1) ≤ 255 * 256 = mul-le-mul {n₁ = vc} {m₁ = r9 + 1} {n₂ = 255} {m₂ = 256} (omega arith) (omega arith) in
-    omega arith
 
 -- after R1 characters is from position 16 x R1 on, which is past the line's end from 40 on
 from_r1 : (r1 x : ℕ) → x < 640 → leb (if (leb 40 r1) 640 (r1 * 16)) x ≡ leb r1 (x / 16)

@@ -28,10 +28,6 @@ outside left right x = either (ltb x left) (leb right x)
 unfoldable pub main_at : List ℕ → Main → ℕ → ℕ
 main_at ram m x = if (ltb x m.scroll) 0 (line_pen ram m.mode m.address m.row (x - m.scroll))
 
--- the same from a line's pens, which have 16 of pen 0 before them
-abbrev pub pen_across : List ℕ → ℕ → ℕ → ℕ
-pen_across pens scroll x = get_or pens (x + 16 - scroll) 0
-
 -- a sprite's pixel over an entry: 0 lets it show
 abbrev pub over : ℕ → ℕ → ℕ
 over pixel v = if (eqb pixel 0) v (16 + pixel)

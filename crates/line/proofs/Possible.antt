@@ -1,16 +1,15 @@
 -- The contract can be met: for every chip and all buffers there is such an answer, with a line so drawn.
-use mathlib.Core.Path.{◌≡◌, refl, sym, ◌∙◌, ap}
+use mathlib.Core.Path.{◌≡◌, refl, ◌∙◌, ap}
 use mathlib.Core.Bool.{Bool, true, false}
 use mathlib.Core.List.{List, [], ◌∷◌}
 use Prim.Native.Nat.{ℕ, zero, suc, ◌+◌, ◌<◌, ◌≤◌}
 use native.Mathlib.Nat.{zero-add}
 use native.Mathlib.Omega.{arith}
-use borrow.Author.Tests.{eqb-true, eq-eqb, ne_eqb}
+use borrow.Author.Tests.{eq-eqb, ne_eqb}
 use lib.Dec.{eqb}
 use lib.ListN.{length, get_or}
-use Rattle.common.specs.Answers.{done, wrong_length, mode_three, served}
-use Rattle.common.specs.Choice.{if, both}
-use Rattle.common.specs.Sizes.{ram_bytes, store_bytes, line_bytes}
+use Rattle.common.specs.Answers.{done, served}
+use Rattle.common.specs.Choice.{if}
 use Rattle.sound.specs.declared.Accesses.{Accesses}
 use Rattle.sound.specs.Line.{sound_report}
 use Rattle.sound.proofs.Laws.{line-cycles}
@@ -18,6 +17,7 @@ use Rattle.chip.specs.declared.Chip.{Chip}
 use Rattle.chip.specs.declared.Stepped.{Stepped}
 use Rattle.chip.specs.Step.{stepped, idle_report, StepsBy}
 use Rattle.draw.specs.Drawing.{draw_answer, entry_at, Draws}
+use Rattle.draw.proofs.Parts.{sizes}
 use Rattle.line.specs.Contract.{Shows}
 use Rattle.line.proofs.Step.{shows}
 
@@ -54,17 +54,6 @@ over-at f i [] j h = absurd (omega arith)
 over-at f i (x ∷ xs) zero h = let e : i + 0 ≡ i = omega arith in rw e
 over-at f i (x ∷ xs) (suc j) h = let e : i + suc j ≡ suc i + j = omega arith in rw e (over-at f (suc i) xs j (omega arith))
 
--- drawing is served into 640 bytes alone
-line-size : (c : Chip) (ram store line : ℕ) → draw_answer c ram store line ≡ done → line ≡ line_bytes
-unfolding draw_answer
-line-size c ram store line e = eqb-true _ _ (by-test (eqb ram ram_bytes) (eqb store store_bytes) (eqb line line_bytes) e)
-  where
-    by-test : (t u v : Bool) → if (both t (both u v)) (if (eqb c.gate.mode 3) mode_three done) wrong_length ≡ done → v ≡ true
-    by-test true true true f = refl
-    by-test true true false f = let z : ◌≡◌ {A = ℕ} 0 1 = sym f in absurd (omega arith)
-    by-test true false v f = let z : ◌≡◌ {A = ℕ} 0 1 = sym f in absurd (omega arith)
-    by-test false u v f = let z : ◌≡◌ {A = ℕ} 0 1 = sym f in absurd (omega arith)
-
 module _ (c : Chip) (ram store line : List ℕ) where
   abbrev answer : ℕ
   answer = draw_answer c (length ram) (length store) (length line)
@@ -76,7 +65,7 @@ module _ (c : Chip) (ram store line : List ℕ) where
   draws =
       record {
         answer = refl;
-        drawn = λ z x h. rw (eq-eqb _ _ z) (over-at (entry_at c ram store) 0 line x (omega (arith, line-size c _ _ _ z)) ∙ ap (entry_at c ram store) (zero-add x));
+        drawn = λ z x h. rw (eq-eqb _ _ z) (over-at (entry_at c ram store) 0 line x (omega (arith, (sizes c _ _ _ z).2)) ∙ ap (entry_at c ram store) (zero-add x));
         size = go (eqb answer done);
         refused = λ n. rw (ne_eqb _ _ n);
       }

@@ -1,29 +1,22 @@
 -- What the call serves, the line step serves too, with the same chip and report.
-use mathlib.Core.Path.{◌≡◌, refl, sym, ◌∙◌}
-use mathlib.Core.Bool.{Bool, true, false}
+use mathlib.Core.Path.{◌≡◌, sym, ◌∙◌}
 use mathlib.Core.List.{List}
 use Prim.Native.Nat.{ℕ}
 use borrow.Author.Tests.{eq-eqb}
-use lib.Dec.{eqb}
 use lib.ListN.{length}
-use Rattle.common.specs.Answers.{done, wrong_length, mode_three}
-use Rattle.common.specs.Choice.{if, both}
-use Rattle.common.specs.Sizes.{ram_bytes, store_bytes, line_bytes}
+use Rattle.common.specs.Answers.{done}
 use Rattle.sound.specs.declared.Accesses.{Accesses}
 use Rattle.chip.specs.declared.Chip.{Chip}
 use Rattle.chip.specs.declared.Stepped.{Stepped}
 use Rattle.chip.specs.Step.{step_answer, StepsBy, Steps}
 use Rattle.draw.specs.Drawing.{draw_answer, Draws}
+use Rattle.draw.proofs.Parts.{sizes}
 use Rattle.line.specs.Contract.{line_answer, AsStepped, Shows}
 
 -- it is served with RAM of 65,536 bytes alone
 ram-served : (c : Chip) (ram : List ℕ) (store line : ℕ) → draw_answer c (length ram) store line ≡ done → step_answer ram ≡ done
-unfolding draw_answer step_answer
-ram-served c ram store line e = by-test (eqb (length ram) ram_bytes) (both (eqb store store_bytes) (eqb line line_bytes)) e
-  where
-    by-test : (t u : Bool) → if (both t u) (if (eqb c.gate.mode 3) mode_three done) wrong_length ≡ done → if t done wrong_length ≡ done
-    by-test true u f = refl
-    by-test false u f = f
+unfolding step_answer
+ram-served c ram store line e = rw (eq-eqb _ _ (sizes c (length ram) store line e).0)
 
 as_stepped :
     (c : Chip) (ram store : List ℕ) (line : ℕ) (a : Accesses) (r : Stepped) → StepsBy (line_answer c ram store line) c ram a r → r.answer ≡ done →
