@@ -1,4 +1,5 @@
 -- Laws of the chip's calls.
 pub mod Serving
+pub mod Stepping
 pub mod ChannelLaws
 pub mod EditingLaws

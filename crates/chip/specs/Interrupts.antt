@@ -1,5 +1,5 @@
 -- 01, "Interrupts": acknowledge.
-use Rattle.std.specs.Prelude.{◌≡◌, Bool, false, not, ℕ, ◌+◌, ◌-◌, ◌*◌, ◌/◌, eqb, leb, set}
+use Rattle.std.specs.Prelude.{◌≡◌, Bool, false, not, ℕ, ◌+◌, ◌-◌, ◌*◌, ◌/◌, ◌<◌, eqb, leb, set, Option, Some, None}
 use Rattle.common.specs.Choice.{if, both, either, bit}
 use Rattle.sound.specs.declared.Channel.{Channel}
 use Rattle.sound.specs.declared.Sound.{Sound}
@@ -8,6 +8,8 @@ use Rattle.sound.specs.Line.{channel_of}
 use Rattle.chip.specs.declared.Chip.{Chip}
 use Rattle.chip.specs.declared.Interrupts.{Interrupts}
 use Rattle.chip.specs.declared.Acknowledged.{Acknowledged}
+use Rattle.chip.specs.declared.acknowledge.Source.{Source}
+use Rattle.chip.specs.declared.acknowledge.Source.TheVariants.{Raster, Channel as ChannelOf}
 use Rattle.chip.specs.State.{with_interrupts, with_sound}
 use Rattle.common.specs.Answers.{done, no_interrupt, served}
 
@@ -29,6 +31,17 @@ channel_for source = 2 - source / 2
 -- where nothing waits
 abbrev pub nobody : ℕ
 nobody = 8
+
+-- the number that a source of the code is known by
+abbrev pub code : Option Source → ℕ
+code None = nobody
+code (Some Raster) = of_raster
+code (Some (ChannelOf n)) = of_channel n
+
+-- there are channels 0, 1 and 2
+abbrev pub HasChannel : Source → Type 0
+HasChannel Raster = Unit {0}
+HasChannel (ChannelOf n) = n < 3
 
 -- the source that is served: raster first, then channels 2, 1, 0
 unfoldable pub source_of : Bool → Sound → ℕ

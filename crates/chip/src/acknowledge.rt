@@ -1,79 +1,78 @@
 // Interrupt acknowledge.
-ghost use Rattle.std.specs.Prelude.{◌≡◌, ◌<◌};
-ghost use Rattle.chip.specs.Interrupts.{source_of, vector_of, sound_served, Acknowledges};
+ghost use Rattle.std.specs.Prelude.{◌≡◌, Some, IfSome};
+ghost use Rattle.chip.specs.Interrupts.{code, HasChannel, source_of, vector_of, sound_served, Acknowledges};
 
 use crate::{Acknowledged, Chip};
-use common::answer::{DONE, NO_INTERRUPT};
+use common::answer::{DONE, Refusal};
 use sound::Sound;
 
-// A source is known by what it adds to the vector: 4, 2 and 0 are channels 0, 1 and 2, this is raster;
-const RASTER: u8 = 6;
+// What an acknowledge serves: raster, or a channel.
+#[derive(Clone, Copy, PartialEq, Eq)]
+enum Source {
+    Raster,
+    Channel(usize),
+}
 
-// nothing waits.
-const NOBODY: u8 = 8;
-
-// The source that is served: raster first, then channels 2, 1 and 0.
+// The source that is served: raster first, then the highest channel that waits.
 #[tactic(auto, unfolding(crate::specs::Interrupts::source_of))]
-fn source_of(raster: bool, sound: Sound) -> u8
-    ensures { result ≡ source_of raster sound }
+fn source_of(raster: bool, sound: Sound) -> Option<Source>
+    ensures code { code result ≡ source_of raster sound }
+    ensures channel { IfSome result HasChannel }
 {
     if raster {
-        return RASTER;
+        return Some(Source::Raster);
     }
-    if sound.channels[2].interrupt {
-        return 0;
-    }
-    if sound.channels[1].interrupt {
-        return 2;
-    }
-    if sound.channels[0].interrupt {
-        return 4;
-    }
-    NOBODY
+    sound
+        .channels
+        .iter()
+        .rposition(|channel| channel.interrupt)
+        .map(Source::Channel)
 }
 
 // The vector: the top five bits of IVR, and what tells the source.
 #[tactic(auto, unfolding(crate::specs::Interrupts::vector_of))]
-fn vector_of(ivr: u8, source: u8) -> u8
-    requires { source < 8 }
-    ensures { result ≡ vector_of ivr source }
+fn vector_of(ivr: u8, source: Source) -> u8
+    requires { HasChannel source }
+    ensures { result ≡ vector_of ivr (code (Some source)) }
 {
-    ivr / 8 * 8 + source
+    let added = match source {
+        Source::Raster => 6,
+        Source::Channel(n) => 4 - 2 * n as u8,
+    };
+    ivr / 8 * 8 + added
 }
 
-// A channel that is served: its interrupt is cleared if IVR bit 0 is 0.
+// A channel that is served keeps its interrupt only if IVR bit 0 is 1.
 #[tactic(auto, unfolding(crate::specs::Interrupts::sound_served))]
-fn sound_served(mut sound: Sound, ivr: u8, source: u8) -> Sound
-    ensures { result ≡ sound_served sound ivr source }
+fn sound_served(mut sound: Sound, ivr: u8, source: Source) -> Sound
+    requires { HasChannel source }
+    ensures { result ≡ sound_served sound ivr (code (Some source)) }
 {
-    if source >= RASTER {
-        return sound;
+    match source {
+        Source::Raster => sound,
+        Source::Channel(n) => {
+            sound.channels[n].interrupt &= ivr % 2 == 1;
+            sound
+        }
     }
-    if ivr % 2 == 1 {
-        return sound;
-    }
-    let n = 2 - source as usize / 2;
-    sound.channels[n].interrupt = false;
-    sound
 }
 
 // Acknowledge: a source is served and gives the vector. Raster comes first, so afterwards it waits no longer.
+#[tactic(auto, using(crate::proofs::Serving::serving), unfolding(crate::specs::Interrupts::acknowledge_answer, crate::specs::Interrupts::acknowledged, crate::specs::Interrupts::vector_on))]
 pub fn acknowledge(mut chip: Chip) -> Acknowledged
     ensures { Acknowledges chip result }
 {
-    let source = source_of(chip.interrupts.raster, chip.sound);
-    if source == NOBODY {
+    let Some(source) = source_of(chip.interrupts.raster, chip.sound) else {
         return Acknowledged {
-            answer: NO_INTERRUPT,
+            answer: Refusal::NoInterrupt.number(),
             chip,
             vector: 0,
         };
-    }
+    };
     let vector = vector_of(chip.interrupts.ivr, source);
     chip.sound = sound_served(chip.sound, chip.interrupts.ivr, source);
-    let raster = source == RASTER;
     chip.interrupts.raster = false;
-    chip.interrupts.last_raster = raster;
+    chip.interrupts.last_raster = source == Source::Raster;
     Acknowledged {
         answer: DONE,
         chip,

@@ -69,7 +69,8 @@ pub struct Chip {
     pub editing: Editing,
 }
 
-// The chip after a call, and its answer number. The chip stands first in every answer, where it is copied whole.
+// The chip after a call, and its answer number, which C reads in the place of a Result. The chip stands first in every answer, where it
+// is copied whole.
 #[repr(C)]
 #[derive(Clone, Copy)]
 pub struct Answered {
@@ -77,7 +78,7 @@ pub struct Answered {
     pub answer: u8,
 }
 
-// An acknowledge's answer: the chip, the number, the vector.
+// An acknowledge's answer: the chip, the number, the vector. C reads this one too.
 #[repr(C)]
 #[derive(Clone, Copy)]
 pub struct Acknowledged {
@@ -86,7 +87,7 @@ pub struct Acknowledged {
     pub vector: u8,
 }
 
-// A line step's answer: the chip, the number, the report of sound.
+// A line step's answer: the chip, the number, the report of sound. StepsBy promises it for every number, so that no Result stands here.
 #[derive(Clone, Copy)]
 pub struct Stepped {
     pub chip: Chip,

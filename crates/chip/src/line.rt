@@ -1,9 +1,10 @@
 // The line step.
 ghost use Rattle.std.specs.Prelude.{◌≡◌};
+ghost use Rattle.common.specs.Refusals.{answer_number};
 ghost use Rattle.chip.specs.Step.{step_answer, idle_report, Moves, MovesBy, StepsBy, Steps};
 
 use crate::{Chip, Crtc, Stepped};
-use common::answer::{DONE, WRONG_LENGTH};
+use common::answer::{DONE, Refusal, answer_number};
 use common::size::RAM;
 use crtc::{Counters, Video};
 use sound::{Accesses, Did, Entry, Report, Sound};
@@ -22,19 +23,21 @@ pub struct Moved {
 fn idle_report() -> Report
     ensures { result ≡ idle_report }
 {
-    let entries = [Entry { did: Did::SatOut }; 3];
-    Report { cycles: 0, entries }
+    Report {
+        cycles: 0,
+        entries: [Entry { did: Did::SatOut }; 3],
+    }
 }
 
-// The answer of a line step: RAM of another length is refused.
+// RAM of another length is refused.
 #[tactic(auto, unfolding(crate::specs::Step::step_answer))]
-fn step_answer(ram: &[u8]) -> u8
-    ensures { result ≡ step_answer ram.now }
+fn step_answer(ram: &[u8]) -> Result<(), Refusal>
+    ensures { answer_number result ≡ step_answer ram.now }
 {
     if ram.len() != RAM {
-        return WRONG_LENGTH;
+        return Err(Refusal::WrongLength);
     }
-    DONE
+    Ok(())
 }
 
 // One line of the parts that it moves: sound, raster compare, split compare, counters. The processor's accesses to the 8255 cost
@@ -42,17 +45,13 @@ fn step_answer(ram: &[u8]) -> u8
 pub fn advance(sound: Sound, crtc: Crtc, video: Video, ram: &[u8], accesses: Accesses) -> Moved
     ensures { Moves sound crtc video ram.now accesses result }
 {
-    let before = crtc.counters;
-    let line = before.line(crtc.registers, video);
-    let counters = line.counters;
+    let line = crtc.counters.line(crtc.registers, video);
     let played = sound::sound_line(sound, ram, accesses);
-    let next = played.sound;
-    let report = played.report;
     Moved {
-        sound: next,
-        counters,
+        sound: played.sound,
+        counters: line.counters,
         raster: line.raster,
-        report,
+        report: played.report,
     }
 }
 
@@ -70,33 +69,27 @@ fn advance_by(
     if answer == DONE {
         return advance(sound, crtc, video, ram, accesses);
     }
-    let counters = crtc.counters;
     Moved {
         sound,
-        counters,
+        counters: crtc.counters,
         raster: false,
         report: idle_report(),
     }
 }
 
-// One line of the chip, in a call that answers this number.
+// One line of the chip, in a call that answers this number, which may be any.
+#[tactic(auto, using(crate::proofs::Stepping::stepping), unfolding(crate::specs::Step::stepped, crate::specs::Step::counters_stepped, crate::specs::Step::idle_report))]
 pub fn step_by(mut chip: Chip, ram: &[u8], accesses: Accesses, answer: u8) -> Stepped
     ensures { StepsBy answer chip ram.now accesses result }
 {
     let line = advance_by(chip.sound, chip.crtc, chip.video, ram, accesses, answer);
-    let sound = line.sound;
-    chip.sound = sound;
-    let counters = line.counters;
-    let mut crtc = chip.crtc;
-    crtc.counters = counters;
-    chip.crtc = crtc;
-    let raster = line.raster | chip.interrupts.raster;
-    chip.interrupts.raster = raster;
-    let report = line.report;
+    chip.sound = line.sound;
+    chip.crtc.counters = line.counters;
+    chip.interrupts.raster |= line.raster;
     Stepped {
         chip,
         answer,
-        report,
+        report: line.report,
     }
 }
 
@@ -104,5 +97,5 @@ pub fn step_by(mut chip: Chip, ram: &[u8], accesses: Accesses, answer: u8) -> St
 pub fn step(chip: Chip, ram: &[u8], accesses: Accesses) -> Stepped
     ensures { Steps chip ram.now accesses result }
 {
-    step_by(chip, ram, accesses, step_answer(ram))
+    step_by(chip, ram, accesses, answer_number(step_answer(ram)))
 }

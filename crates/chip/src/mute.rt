@@ -3,7 +3,7 @@ ghost use Rattle.chip.specs.Promises.{Answers};
 ghost use Rattle.chip.specs.Mute.{mute_answer, mute_set};
 
 use crate::{Answered, Chip};
-use common::answer::{DONE, NOTHING_THERE};
+use common::answer::{DONE, Refusal};
 
 // Sets or clears a channel's mute mark: its LOADs then leave the PSG. A number above 2 is no channel.
 #[tactic(auto, unfolding(crate::specs::Mute::mute_answer, crate::specs::Mute::mute_set))]
@@ -12,12 +12,10 @@ pub fn mute(mut chip: Chip, channel: u16, on: bool) -> Answered
 {
     if channel > 2 {
         return Answered {
-            answer: NOTHING_THERE,
+            answer: Refusal::NothingThere.number(),
             chip,
         };
     }
-    let mut sound = chip.sound;
-    sound.channels[channel as usize].muted = on;
-    chip.sound = sound;
+    chip.sound.channels[channel as usize].muted = on;
     Answered { answer: DONE, chip }
 }

@@ -4,15 +4,14 @@ ghost use Rattle.chip.specs.Promises.{Answers};
 ghost use Rattle.chip.specs.Ports.{Selects, data_answer, data_written, gate_answer, gate_after, gate_written};
 
 use crate::{Answered, Chip, Gate};
-use common::answer::{DONE, NOTHING_THERE};
+use common::answer::{DONE, Refusal};
 
 // A byte written to BCxx: selects a 6845 register and feeds the lock.
 #[tactic(auto, unfolding(crate::specs::Ports::selected))]
 pub fn write_bc(mut chip: Chip, byte: u8) -> Answered
     ensures { Selects chip byte result }
 {
-    let selected = byte % 32;
-    chip.crtc.selected = selected;
+    chip.crtc.selected = byte % 32;
     chip.lock = chip.lock.feed(byte);
     Answered { answer: DONE, chip }
 }
@@ -22,15 +21,14 @@ pub fn write_bc(mut chip: Chip, byte: u8) -> Answered
 pub fn write_bd(mut chip: Chip, byte: u8) -> Answered
     ensures { Answers (data_answer chip) (data_written chip byte) chip result }
 {
-    if !crtc::has_register(chip.crtc.selected) {
+    let number = chip.crtc.selected;
+    if !crtc::has_register(number) {
         return Answered {
-            answer: NOTHING_THERE,
+            answer: Refusal::NothingThere.number(),
             chip,
         };
     }
-    let mut crtc = chip.crtc;
-    crtc.registers = crtc.registers.written(crtc.selected, byte);
-    chip.crtc = crtc;
+    chip.crtc.registers = chip.crtc.registers.written(number, byte);
     Answered { answer: DONE, chip }
 }
 
@@ -41,13 +39,13 @@ fn gate_after(gate: Gate, page: bool, byte: u8) -> Gate
 {
     if page {
         return Gate {
-            mode: gate.mode,
             mapped: byte / 8 % 4 == 3,
+            ..gate
         };
     }
     Gate {
         mode: byte % 4,
-        mapped: gate.mapped,
+        ..gate
     }
 }
 
@@ -57,15 +55,14 @@ pub fn write_7f(mut chip: Chip, byte: u8) -> Answered
     ensures { Answers (gate_answer byte) (gate_written chip byte) chip result }
 {
     let top = byte / 32;
-    if !((top == 4) | (top == 5)) {
+    if !matches!(top, 4 | 5) {
         return Answered {
-            answer: NOTHING_THERE,
+            answer: Refusal::NothingThere.number(),
             chip,
         };
     }
-    let page = (top == 5) & chip.lock.unlocked;
-    let raster = chip.interrupts.raster & (page | (byte / 16 % 2 != 1));
+    let page = top == 5 && chip.lock.unlocked;
     chip.gate = gate_after(chip.gate, page, byte);
-    chip.interrupts.raster = raster;
+    chip.interrupts.raster &= page || byte / 16 % 2 != 1;
     Answered { answer: DONE, chip }
 }

@@ -23,16 +23,15 @@ pub fn undo_of(editing: Editing, editor: Editor) -> Undo
 pub fn with_undo(editing: Editing, editor: Editor, undo: Undo) -> Editing
     ensures { result ≡ editing_with editing editor undo }
 {
-    let mut e = editing;
     match editor {
-        Editor::Song => {
-            e.song = undo;
-            e
-        }
-        Editor::Picture => {
-            e.picture = undo;
-            e
-        }
+        Editor::Song => Editing {
+            song: undo,
+            ..editing
+        },
+        Editor::Picture => Editing {
+            picture: undo,
+            ..editing
+        },
     }
 }
 
@@ -41,14 +40,11 @@ pub fn with_undo(editing: Editing, editor: Editor, undo: Undo) -> Editing
 pub fn start(mut chip: Chip, owners: Owners) -> Answered
     ensures { Answers done (started chip owners) chip result }
 {
-    let lists = chip.editing.lists;
-    let table = Table::holding(owners);
-    let editing = Editing {
-        table,
+    chip.editing = Editing {
+        table: Table::holding(owners),
         song: Undo { next: 0, count: 0 },
         picture: Undo { next: 0, count: 0 },
-        lists,
+        ..chip.editing
     };
-    chip.editing = editing;
     Answered { answer: DONE, chip }
 }
