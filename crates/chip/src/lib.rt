@@ -19,7 +19,7 @@ pub mod table;
 
 // The gate array: the screen mode, and whether the register page is mapped.
 #[repr(C)]
-#[derive(Clone, Copy)]
+#[derive(Clone, Copy, Default)]
 pub struct Gate {
     pub mode: u8,
     pub mapped: bool,
@@ -27,7 +27,7 @@ pub struct Gate {
 
 // The 6845: the register that the next data write goes to, the registers, the counters.
 #[repr(C)]
-#[derive(Clone, Copy)]
+#[derive(Clone, Copy, Default)]
 pub struct Crtc {
     pub selected: u8,
     pub registers: Registers,

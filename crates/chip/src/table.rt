@@ -42,8 +42,8 @@ pub fn start(mut chip: Chip, owners: Owners) -> Answered
 {
     chip.editing = Editing {
         table: Table::holding(owners),
-        song: Undo { next: 0, count: 0 },
-        picture: Undo { next: 0, count: 0 },
+        song: Undo::default(),
+        picture: Undo::default(),
         ..chip.editing
     };
     Answered { answer: DONE, chip }

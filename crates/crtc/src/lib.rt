@@ -8,7 +8,7 @@ ghost use Rattle.crtc.specs.Line.{line_number, raster_due, split_due, captured, 
 
 // The registers that are kept. A data write stores no more bits than document 01 gives a register; the fields themselves hold any byte.
 #[repr(C)]
-#[derive(Clone, Copy)]
+#[derive(Clone, Copy, Default)]
 pub struct Registers {
     pub r1: u8,
     pub r4: u8,
@@ -22,7 +22,7 @@ pub struct Registers {
 // The counters of the current line: row VC, line in the row RC, whether it is an adjust line, its screen
 // address, and the split address that was captured, if one is held. The flag `held` with `split` beside it stays: C sees this struct.
 #[repr(C)]
-#[derive(Clone, Copy)]
+#[derive(Clone, Copy, Default)]
 pub struct Counters {
     pub vc: u8,
     pub rc: u8,
@@ -34,7 +34,7 @@ pub struct Counters {
 
 // The registers of the page that counting uses: PRI, split line and address, SSCR.
 #[repr(C)]
-#[derive(Clone, Copy)]
+#[derive(Clone, Copy, Default)]
 pub struct Video {
     pub pri: u8,
     pub split_line: u8,

@@ -17,7 +17,7 @@ use std::ops::Range;
 // The room for lists: how many words lie below its lower and below its higher bound, and which of the 64 handles have a list, a bit
 // each. With both bounds 0 there is none.
 #[repr(C)]
-#[derive(Clone, Copy)]
+#[derive(Clone, Copy, Default)]
 pub struct Area {
     pub used: u64,
     pub from: u16,

@@ -4,7 +4,7 @@ ghost use Rattle.picture.specs.Sprites.{raw_of, coordinate, written, low_shown, 
 
 // X from -256 to 767 and Y from -256 to 255 where written through the page; magnification has 4 bits: 3-2 for X, 1-0 for Y.
 #[repr(C)]
-#[derive(Clone, Copy, PartialEq, Eq)]
+#[derive(Clone, Copy, PartialEq, Eq, Default)]
 pub struct Sprite {
     pub x: i16,
     pub y: i16,

@@ -10,7 +10,7 @@ const PLACES: u16 = 256;
 
 // The state of a record: the place that the next entry goes to, and how many entries are kept.
 #[repr(C)]
-#[derive(Clone, Copy)]
+#[derive(Clone, Copy, Default)]
 pub struct Undo {
     pub next: u8,
     pub count: u16,

@@ -11,7 +11,7 @@ use words::WordKind;
 // One channel. `count` is the lines counted towards the next fall of `pause`, `counter` the passes
 // that LOOP has left, `mark` where LOOP goes back to. The LOADs of a `muted` one leave the PSG.
 #[repr(C)]
-#[derive(Clone, Copy)]
+#[derive(Clone, Copy, Default)]
 pub struct Channel {
     pub enabled: bool,
     pub interrupt: bool,
