@@ -20,3 +20,5 @@ pub off-channel : (r : ChannelRegister) → 0 ≡ channel_contents off_channel r
 off-channel StartLow = refl
 off-channel StartHigh = refl
 off-channel Prescale = refl
+
+pub ruleset off = (off-sprite, off-channel)

@@ -37,26 +37,22 @@ fn channel_contents(channel: Channel, which: ChannelRegister) -> u8
     }
 }
 
-// Of sprite n; past the last one there are none.
+// Of sprite n; past the last one there are none. The array comes by value: borrowed in the chip it made an export twice as dear.
+#[tactic(auto, using(crate::proofs::Off::off))]
 fn sprite_contents(sprites: [Sprite; 16], n: usize, place: u8) -> u8
     ensures { result ≡ sprite_contents (get_or sprites n off_sprite) place }
 {
-    if 16 <= n {
-        return 0;
-    }
-    let sprite = sprites[n];
-    sprite.contents(place)
+    sprites.get(n).map_or(0, |sprite| sprite.contents(place))
 }
 
 // Of channel n; past the last one there are none.
+#[tactic(auto, using(crate::proofs::Off::off))]
 fn one_of_three(channels: [Channel; 3], n: usize, which: ChannelRegister) -> u8
     ensures { result ≡ channel_contents (channel_of channels n) which }
 {
-    if 3 <= n {
-        return 0;
-    }
-    let channel = channels[n];
-    channel_contents(channel, which)
+    channels
+        .get(n)
+        .map_or(0, |channel| channel_contents(*channel, which))
 }
 
 // Of any register; a pixel's are the whole byte in the store.
@@ -65,24 +61,11 @@ pub fn contents_of(chip: Chip, store: &[u8], register: Register) -> u8
 {
     match register {
         Register::Pixel(i) => common::byte_at(store, i),
-        Register::Sprite(n, place) => {
-            let sprites = chip.sprites;
-            sprite_contents(sprites, n, place)
-        }
-        Register::Palette(i) => {
-            let palette = chip.palette;
-            picture::palette::byte_of(palette, i)
-        }
+        Register::Sprite(n, place) => sprite_contents(chip.sprites, n, place),
+        Register::Palette(i) => picture::palette::byte_of(chip.palette, i),
         Register::Video(which) => video_contents(chip.video, which),
         Register::Ivr => chip.interrupts.ivr,
-        Register::Converter => 0,
-        Register::Channel(n, which) => {
-            let sound = chip.sound;
-            let channels = sound.channels;
-            one_of_three(channels, n, which)
-        }
-        Register::Dcsr => 0,
-        Register::Status => 0,
-        Register::Empty => 0,
+        Register::Channel(n, which) => one_of_three(chip.sound.channels, n, which),
+        Register::Converter | Register::Dcsr | Register::Status | Register::Empty => 0,
     }
 }
