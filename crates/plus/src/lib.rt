@@ -18,7 +18,7 @@ ghost use Rattle.take.specs.Record.{packed, unpacked};
 ghost use Rattle.take.specs.Open.{Opening, ReadsRecord};
 ghost use Rattle.take.specs.Contract.{WritesTake};
 ghost use Rattle.replay.specs.Contract.{Replays};
-ghost use Rattle.plus.specs.Report.{accesses_by, kind_number, low_of, kinds_of, lows_of};
+ghost use Rattle.plus.specs.Report.{accesses_by, kind_number, low_of};
 ghost use Rattle.plus.specs.Promises.{LineTold, LengthTold};
 ghost use Rattle.plus.specs.Undo.{UndoTold};
 ghost use Rattle.plus.specs.Mute.{MuteTold};
@@ -109,6 +109,7 @@ pub fn plus_write_7f(chip: Chip, byte: u8) -> Answered
 }
 
 // The host gives the table of owners; both undo records are empty then.
+#[tactic(auto, using(crate::proofs::Runs::over_runs))]
 pub fn plus_start(chip: Chip, owners: Owners) -> Answered
     ensures { StartTold chip owners result }
 {
@@ -158,6 +159,7 @@ pub fn plus_area(chip: Chip, from: u32, upto: u32) -> Answered
 }
 
 // Mutes a channel, whose LOADs then leave the PSG, or has it heard again.
+#[tactic(auto, using(crate::proofs::Runs::over_runs))]
 pub fn plus_mute(chip: Chip, channel: u16, on: bool) -> Answered
     ensures { MuteTold chip channel on result }
 {
@@ -165,6 +167,7 @@ pub fn plus_mute(chip: Chip, channel: u16, on: bool) -> Answered
 }
 
 // Places a list in the area, with the places of the lists lent, and copies it into RAM.
+#[tactic(auto, using(crate::proofs::Runs::over_runs))]
 pub fn plus_place(chip: Chip, places: &mut [u32; 64], ram: &mut [u8], list: &[u8]) -> PlacedList
     ensures { PlaceTold chip places.old ram.old list.now places.new ram.new result }
 {
@@ -172,6 +175,7 @@ pub fn plus_place(chip: Chip, places: &mut [u32; 64], ram: &mut [u8], list: &[u8
 }
 
 // Removes a placed list, by its handle.
+#[tactic(auto, using(crate::proofs::Runs::over_runs))]
 pub fn plus_remove(chip: Chip, places: &[u32; 64], handle: u32) -> Answered
     ensures { RemoveTold chip places.now handle result }
 {
@@ -196,16 +200,13 @@ pub fn plus_acknowledge(chip: Chip) -> Acknowledged
 fn kind_number(entry: Entry) -> u8
     ensures { result ≡ kind_number entry.did }
 {
-    let did = entry.did;
-    match did {
+    match entry.did {
         Did::SatOut => 0,
-        Did::Executed(kind, _) => match kind {
-            WordKind::Load => 1,
-            WordKind::Pause => 2,
-            WordKind::Repeat => 3,
-            WordKind::Control => 4,
-            WordKind::Nothing => 5,
-        },
+        Did::Executed(WordKind::Load, _) => 1,
+        Did::Executed(WordKind::Pause, _) => 2,
+        Did::Executed(WordKind::Repeat, _) => 3,
+        Did::Executed(WordKind::Control, _) => 4,
+        Did::Executed(WordKind::Nothing, _) => 5,
     }
 }
 
@@ -213,31 +214,10 @@ fn kind_number(entry: Entry) -> u8
 fn low_of(entry: Entry) -> u16
     ensures { result ≡ low_of entry.did }
 {
-    let did = entry.did;
-    match did {
+    match entry.did {
         Did::SatOut => 0,
         Did::Executed(_, low) => low,
     }
-}
-
-// What each channel did, as numbers.
-fn kinds_of(entries: [Entry; 3]) -> [u8; 3]
-    ensures { result ≡ kinds_of entries }
-{
-    let zero = entries[0];
-    let one = entries[1];
-    let two = entries[2];
-    [kind_number(zero), kind_number(one), kind_number(two)]
-}
-
-// The low 12 bits that each channel reports.
-fn lows_of(entries: [Entry; 3]) -> [u16; 3]
-    ensures { result ≡ lows_of entries }
-{
-    let zero = entries[0];
-    let one = entries[1];
-    let two = entries[2];
-    [low_of(zero), low_of(one), low_of(two)]
 }
 
 // What the processor does at the 8255 for each channel, from numbers.
@@ -265,15 +245,13 @@ pub fn plus_line(
     ensures { LineTold chip ram.now store.now (accesses_by first second third) line.old line.new result }
 {
     let stepped = line::line(chip, ram, store, line, accesses(first, second, third));
-    let next = stepped.chip;
-    let report = stepped.report;
-    let entries = report.entries;
+    let entries = stepped.report.entries;
     PlusStepped {
-        chip: next,
+        chip: stepped.chip,
         answer: stepped.answer,
-        cycles: report.cycles,
-        kinds: kinds_of(entries),
-        lows: lows_of(entries),
+        cycles: stepped.report.cycles,
+        kinds: entries.map(kind_number),
+        lows: entries.map(low_of),
     }
 }
 
