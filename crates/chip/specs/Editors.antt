@@ -14,7 +14,7 @@ undo_of x e = pick e x.song x.picture
 
 -- with this editor's record changed, the other's, the table and the lists as they were
 abbrev pub editing_with : Editing → Editor → Undo → Editing
-editing_with x e u = record { table = x.table; song = pick e u x.song; picture = pick e x.picture u; lists = x.lists }
+editing_with x e u = record x { song = pick e u x.song; picture = pick e x.picture u }
 
 -- a record with nothing to undo
 abbrev pub no_entries : Undo
@@ -22,12 +22,11 @@ no_entries = record { next = 0; count = 0 }
 
 -- the chip after a start: this table holds, and both records are empty; the lists stay
 unfoldable pub started : Chip → Owners → Chip
-started c o = with_editing c (record { table = holding o; song = no_entries; picture = no_entries; lists = c.editing.lists })
+started c o = with_editing c (record c.editing { table = holding o; song = no_entries; picture = no_entries })
 
 -- the area of a chip, and the chip with another
 abbrev pub lists_of : Chip → Area
 lists_of c = c.editing.lists
 
 abbrev pub with_lists : Chip → Area → Chip
-with_lists c a =
-    with_editing c (record { table = c.editing.table; song = c.editing.song; picture = c.editing.picture; lists = a })
+with_lists c a = with_editing c (record c.editing { lists = a })

@@ -65,10 +65,9 @@ vector_on c = vector_of c.interrupts.ivr (source_on c)
 -- raster is cleared if it is served, and DCSR shows whether the last acknowledge was raster
 abbrev pub interrupts_served : Interrupts → ℕ → Interrupts
 interrupts_served i source =
-    record {
+    record i {
       raster = both i.raster (not (eqb source of_raster));
       last_raster = eqb source of_raster;
-      ivr = i.ivr;
     }
 
 -- a channel with its interrupt cleared, and the sound state with channel n's
@@ -76,7 +75,7 @@ abbrev pub cleared : Channel → Channel
 cleared d = with_flags d d.enabled false
 
 abbrev pub with_cleared : Sound → ℕ → Sound
-with_cleared s n = record { channels = set s.channels n (cleared (channel_of s.channels n)); psg = s.psg }
+with_cleared s n = record s { channels = set s.channels n (cleared (channel_of s.channels n)) }
 
 -- a channel that is served loses its interrupt with IVR bit 0 at 0, and keeps it with 1
 unfoldable pub sound_served : Sound → ℕ → ℕ → Sound

@@ -14,7 +14,7 @@ use Rattle.chip.specs.Promises.{Answers}
 unfoldable pub selected : Chip → ℕ → Chip
 selected c b =
     with_lock
-    (with_crtc c (record { selected = b % 32; registers = c.crtc.registers; counters = c.crtc.counters }))
+    (with_crtc c (record c.crtc { selected = b % 32 }))
     (fed c.lock b)
 
 -- what a BCxx write promises: it is always served, and a lock that has been fed a history since reset goes on by this byte, so that
@@ -47,8 +47,7 @@ for_page c b = both (eqb (top b) 5) c.lock.unlocked
 
 -- a byte for the page maps it where bits 4 and 3 are both set, else unmaps it; a byte for the mode has it in bits 1-0
 unfoldable pub gate_after : Gate → Bool → ℕ → Gate
-gate_after g page b =
-    if page (record { mode = g.mode; mapped = eqb (b / 8 % 4) 3 }) (record { mode = b % 4; mapped = g.mapped })
+gate_after g page b = if page (record g { mapped = eqb (b / 8 % 4) 3 }) (record g { mode = b % 4 })
 
 -- a waiting raster interrupt stays, unless the byte is for the mode and its bit 4 clears it
 abbrev pub raster_after : Bool → Bool → ℕ → Bool
