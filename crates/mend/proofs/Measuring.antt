@@ -1,17 +1,13 @@
--- The words in use one by one: their changes, and what the pass that measures has seen.
-use mathlib.Core.Path.{◌≡◌, refl, ap, sym, ◌∙◌}
-use mathlib.Core.Bool.{Bool, true, false, ◌||◌, or_assoc, or-false}
-use mathlib.Core.List.{List, [], ◌∷◌, ◌++◌}
-use Prim.Native.Nat.{ℕ, suc, ◌+◌, ◌<◌, ◌≤◌}
-use native.Mathlib.Numerals.{add-one}
-use native.Mathlib.Omega.{arith}
+-- Words one by one: their changes, and whether a STOP stands among them.
+use Rattle.std.proofs.Common.{◌≡◌, ℕ, suc, ◌+◌, ◌<◌, ◌≤◌, Bool, true, false, ◌||◌, List, [], ◌∷◌, ◌++◌, length, take, drop, get_or, refl, sym, ap, ◌∙◌, arith, append_assoc, length-append, add-zero, take-append-drop}
+use Rattle.std.proofs.lemmas.List.{append-nil, length-take, length-take-le, take_more}
+use mathlib.Core.Bool.{not, or_assoc, or-false}
 use lib.Dec.{eqb}
-use lib.ListN.{length, take, drop, get_or, length-append, drop_of_length-le}
-use lib.Seq.{drop-cons, get_or-take, length-take-le}
-use Rattle.common.specs.Choice.{if, either}
+use mir.Val.{bool_byte}
+use Rattle.common.specs.Choice.{if}
 use Rattle.words.specs.Words.{stops, has_stop}
 use Rattle.mend.specs.Rule.{mended, changes_from}
-use Rattle.mend.specs.Passes.{change, change_of, changed, Sees}
+use Rattle.mend.specs.Passes.{change, change_of}
 
 -- the changes of a word, then those of the words after it
 pub changes-more : (p w : ℕ) (ws : List ℕ) → changes_from p (w ∷ ws) ≡ change_of p w ++ changes_from (suc p) ws
@@ -25,70 +21,62 @@ changes-more p w ws = by-test (eqb (mended w) w)
     by-test true = refl
     by-test false = refl
 
--- of a word at most one
-pub changed-count : (p w : ℕ) → length (change_of p w) ≡ changed w
-changed-count p w = by-test (eqb (mended w) w)
+-- of a word one, where mending changes it
+pub one-count : (p w : ℕ) → length (change_of p w) ≡ bool_byte (not (eqb (mended w) w))
+one-count p w = by-test (eqb (mended w) w)
   where
-    by-test : (t : Bool) → length (if t [] (change p w ∷ [])) ≡ if t 0 1
+    by-test : (t : Bool) → length (if t [] (change p w ∷ [])) ≡ bool_byte (not t)
     by-test true = refl
     by-test false = refl
 
-pub changed-most : (w : ℕ) → changed w ≤ 1
-changed-most w = by-test (eqb (mended w) w)
-  where
-    by-test : (t : Bool) → if t 0 1 ≤ 1
-    by-test true = omega arith
-    by-test false = omega arith
+pub one-most : (t : Bool) → bool_byte t ≤ 1
+one-most true = omega arith
+one-most false = omega arith
 
-either_or : (a b : Bool) → either a b ≡ a || b
-either_or true b = refl
-either_or false b = refl
+few : (p : ℕ) (ws : List ℕ) → length (changes_from p ws) ≤ length ws
+unfolding changes_from
+few p [] = omega arith
+few p (w ∷ ws) = rw (changes-more p w ws, length-append) (omega (arith, one-count p w, one-most (not (eqb (mended w) w)), few (suc p) ws))
 
--- the words in use from a place on: the word there and those after it, or none
-abbrev pub left : List ℕ → ℕ → ℕ → List ℕ
-left words used at = drop at (take used words)
+-- those of words after words
+pub changes-append : (p : ℕ) (xs ys : List ℕ) → changes_from p (xs ++ ys) ≡ changes_from p xs ++ changes_from (p + length xs) ys
+unfolding changes_from
+changes-append p [] ys = rw add-zero
+changes-append p (w ∷ xs) ys =
+    let e : p + suc (length xs) ≡ suc p + length xs = omega arith in
+    rw (changes-more p w (xs ++ ys), changes-append (suc p) xs ys, changes-more p w xs, e, append_assoc)
 
-module _ (words : List ℕ) (used at : ℕ) (k : used ≤ length words) where
-  pub none_left : used ≤ at → left words used at ≡ []
-  none_left h = drop_of_length-le (take used words) {i = at} (omega (arith, length-take-le used words k))
+stops-append : (xs ys : List ℕ) → has_stop (xs ++ ys) ≡ (has_stop xs || has_stop ys)
+unfolding has_stop
+stops-append [] ys = refl
+stops-append (w ∷ xs) ys = rw (stops-append xs ys) (sym (or_assoc (stops w) (has_stop xs) (has_stop ys)))
 
-  module _ (h : at < used) where
-    pub one_left : left words used at ≡ get_or words at 0 ∷ left words used (at + 1)
-    one_left =
-        let n : at < length (take used words) = omega (arith, length-take-le used words k) in
-        drop-cons (take used words) at 0 n ∙ rw (add-one, get_or-take used words at 0)
+one-word : (p w : ℕ) → changes_from p (w ∷ []) ≡ change_of p w
+unfolding changes_from
+one-word p w = changes-more p w [] ∙ append-nil (change_of p w)
 
-    pub changes-at : changes_from at (left words used at) ≡ change_of at (get_or words at 0) ++ changes_from (at + 1) (left words used (at + 1))
-    changes-at = ap (changes_from at) one_left ∙ changes-more at (get_or words at 0) _ ∙ rw add-one
+module _ (ws : List ℕ) (i : ℕ) where
+  -- the first words have no more of them than all
+  pub changes-within : length (changes_from 0 (take i ws)) ≤ length (changes_from 0 ws)
+  changes-within =
+      let all = ap (λ l. length (changes_from 0 l)) (take-append-drop i ws) in
+      omega (arith, all, simp length-append at (ap length (changes-append 0 (take i ws) (drop i ws))))
 
-    pub count_at :
-        length (changes_from at (left words used at)) ≡ changed (get_or words at 0) + length (changes_from (at + 1) (left words used (at + 1)))
-    count_at = rw (changes-at, length-append, changed-count)
+  module _ (h : i < length ws) where
+    -- one word more
+    pub changes-next : changes_from 0 (take (i + 1) ws) ≡ changes_from 0 (take i ws) ++ change_of i (get_or ws i 0)
+    changes-next =
+        let n : 0 + length (take i ws) ≡ i = omega (arith, length-take-le i ws (omega arith)) in
+        rw (take_more ws i 0 h, changes-append 0 (take i ws) (get_or ws i 0 ∷ []), n, one-word)
 
-    pub stop-at : has_stop (left words used at) ≡ stops (get_or words at 0) || has_stop (left words used (at + 1))
+    pub stops-next : has_stop (take (i + 1) ws) ≡ (has_stop (take i ws) || stops (get_or ws i 0))
     unfolding has_stop
-    stop-at = ap has_stop one_left ∙ either_or (stops (get_or words at 0)) _
+    stops-next = rw (take_more ws i 0 h, stops-append) (ap (λ b. has_stop (take i ws) || b) (or-false (stops (get_or ws i 0))))
 
--- so many of the first words change, and one of them has STOP or none: with the words that are left these are all
-pub record Seeing (words : List ℕ) (used changes : ℕ) (stop : Bool) (at : ℕ) : Type 0 where
-  pub few : changes ≤ at
-  pub count : changes + length (changes_from at (left words used at)) ≡ length (changes_from 0 (take used words))
-  pub stopping : stop || has_stop (left words used at) ≡ has_stop (take used words)
+pub count-next : (ws : List ℕ) (i : ℕ) → i < length ws → length (changes_from 0 (take (i + 1) ws)) ≡ length (changes_from 0 (take i ws)) + bool_byte (not (eqb (mended (get_or ws i 0)) (get_or ws i 0)))
+count-next ws i h = rw (changes-next ws i h, length-append, one-count)
 
-pub seen_none : (words : List ℕ) (used : ℕ) → Seeing words used 0 false 0
-seen_none words used = record { few = omega arith; count = omega arith; stopping = refl }
+pub count-few : (ws : List ℕ) (i : ℕ) → length (changes_from 0 (take i ws)) ≤ i
+count-few ws i = let h = simp length-take at (few 0 (take i ws)) in omega arith
 
-module _ {words : List ℕ} {used changes at : ℕ} {stop : Bool} (s : Seeing words used changes stop at) (k : used ≤ length words) where
-  pub seen_more : at < used → Seeing words used (changes + changed (get_or words at 0)) (stop || stops (get_or words at 0)) (at + 1)
-  seen_more h =
-      record {
-        few = omega (arith, changed-most (get_or words at 0), s.few);
-        count = omega (arith, count_at words used at k h, s.count);
-        stopping = or_assoc stop _ _ ∙ ap (λ b. stop || b) (sym (stop-at words used at k h)) ∙ s.stopping;
-      }
-
-  pub seen_all : used ≤ at → Sees words used changes stop
-  unfolding changes_from has_stop
-  seen_all h =
-      let e = none_left words used at k h in
-      record { within = k; changing = omega (arith, rw e at s.count); stopping = sym (or-false stop) ∙ rw e at s.stopping }
+pub ruleset steps = (count-next, stops-next, count-few, one-most)

@@ -1,5 +1,7 @@
 -- A mended word: its kind and its bits, and what mending leaves as it was.
-use mathlib.Core.Path.{◌≡◌, refl}
+use mathlib.Core.Path.{◌≡◌, refl, ap, ◌∙◌}
+use Rattle.std.specs.Int.Bits.{bit_and, and_zero_r}
+use Rattle.std.proofs.lemmas.Nat.{and_block, and_mask}
 use mathlib.Core.Bool.{Bool, true, false}
 use Prim.Native.Nat.{ℕ, ◌+◌, ◌*◌, ◌/◌, ◌%◌, ◌^◌, ◌<◌, ◌≤◌}
 use native.Mathlib.Omega.{arith}
@@ -50,8 +52,25 @@ bit-value x = by-test (eqb (x % 2) 1) refl
     by-test true e = omega (arith, eqb-true (x % 2) 1 e)
     by-test false e = omega (arith, eqb-false (x % 2) 1 e)
 
-pub control-sum : (n : ℕ) → 0x4000 + n % 2 + n / 16 % 2 * 16 + n / 32 % 2 * 32 ≡ control (loop_bit n) (int_bit n) (stop_bit n)
+control-sum : (n : ℕ) → 0x4000 + n % 2 + n / 16 % 2 * 16 + n / 32 % 2 * 32 ≡ control (loop_bit n) (int_bit n) (stop_bit n)
 control-sum n = rw (bit-value (n / 2 ^ 0), bit-value (n / 2 ^ 4), bit-value (n / 2 ^ 5)) (omega arith)
+
+-- the three bits and the code of a control word are what is left of it
+pub kept : (w : ℕ) → w / 4096 ≡ 4 → bit_and w 0x4031 ≡ mended_as Control w
+kept w e =
+    let n : ℕ = low12 w in
+    let word : w ≡ 4 * 4096 + n = omega arith in
+    let low : n ≡ n / 64 * 64 + n % 64 = omega arith in
+    let six : n % 64 ≡ n / 16 % 4 * 16 + n % 16 = omega arith in
+    let a : bit_and w 0x4031 ≡ 0x4000 + bit_and n 0x31 =
+    ap (λ x. bit_and x 0x4031) word ∙ and_block 12 4 4 n 0x31 (omega arith) (omega arith) in
+    let b : bit_and n 0x31 ≡ bit_and (n / 64) 0 * 64 + bit_and (n % 64) 0x31 =
+    ap (λ x. bit_and x 0x31) low ∙ and_block 6 (n / 64) 0 (n % 64) 0x31 (omega arith) (omega arith) in
+    let c : bit_and (n % 64) 0x31 ≡ bit_and (n / 16 % 4) 3 * 16 + bit_and (n % 16) 1 =
+    ap (λ x. bit_and x 0x31) six ∙ and_block 4 (n / 16 % 4) 3 (n % 16) 1 (omega arith) (omega arith) in
+    let sum : bit_and w 0x4031 ≡ 0x4000 + n % 2 + n / 16 % 2 * 16 + n / 32 % 2 * 32 =
+    omega (arith, and_zero_r (n / 64), and_mask (n / 16 % 4) 2, and_mask (n % 16) 1) in
+    sum ∙ control-sum n
 
 module _ (w : ℕ) where
   -- the word with its three bits alone

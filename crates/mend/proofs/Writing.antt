@@ -1,41 +1,12 @@
--- The words in use mended one by one, and their changes reported.
-use mathlib.Core.Path.{◌≡◌, refl, ap, sym, ◌∙◌}
-use mathlib.Core.List.{List, [], ◌∷◌, ◌++◌, map, head-eq_of_cons-eq, tail-eq_of_cons-eq}
-use Prim.Native.Nat.{ℕ, suc, ◌+◌, ◌*◌, ◌/◌, ◌<◌, ◌≤◌}
-use native.Mathlib.Numerals.{add-one}
-use native.Mathlib.Omega.{arith}
-use borrow.Author.Tests.{eq-eqb, ne_eqb}
-use lib.ListN.{length, take, drop, get_or, set}
-use lib.Seq.{sets, set-get_or, drop-cons, drop-set-lt}
+-- Words mended one by one, and their changes reported.
+use Rattle.std.proofs.Common.{◌≡◌, ℕ, ◌+◌, ◌*◌, ◌/◌, ◌<◌, ◌≤◌, List, [], ◌∷◌, ◌++◌, length, take, drop, get_or, set, map, refl, sym, ap, ◌∙◌, arith, append_assoc, length-append}
+use Rattle.std.proofs.lemmas.List.{drop_more, take_more, get_or_at, set_at, map-append, length-map, length-take-le}
+use Rattle.std.proofs.lemmas.List.Edits.{sets}
 use Rattle.common.proofs.Lists.{sets-append}
 use Rattle.mend.specs.Rule.{mended, changes_from, numbers_of}
-use Rattle.mend.specs.Passes.{changed, change_of, MendsWord, MendsWords}
+use Rattle.mend.specs.Passes.{change_of, MendsWord}
 use Rattle.mend.specs.declared.Change.{Change}
-use Rattle.mend.proofs.Measuring.{changed-count, left, none_left, one_left, changes-at, count_at}
-
-module _ (buffer : List ℕ) (at : ℕ) (report : List ℕ) (count : ℕ) {new : ℕ} (m : new ≡ mended (get_or buffer at 0)) where
-  abbrev old : ℕ
-  old = get_or buffer at 0
-
-  -- a word that mending leaves
-  pub word-stays : new ≡ old → MendsWord buffer at report count buffer report count
-  unfolding numbers_of
-  word-stays e =
-      let s : mended old ≡ old = sym m ∙ e in
-      let t = eq-eqb (mended old) old s in
-      record { word = rw s (sym (set-get_or buffer at 0)); told = rw t; counted = rw t (omega arith) }
-
-  -- one that it changes
-  pub word-changes :
-      (new ≡ old → ⊥) → {told : List ℕ} → told ≡ sets report (count * 2) (at ∷ (old * 65536 + new) ∷ []) →
-      MendsWord buffer at report count (set buffer at new) told (count + 1)
-  unfolding numbers_of
-  word-changes n e =
-      let t = ne_eqb (mended old) old (λ f. n (m ∙ f)) in
-      record { word = rw m; told = rw t (rw m at e); counted = rw t }
-
-pub one-change : (w : ℕ) {new : ℕ} → new ≡ mended w → (new ≡ w → ⊥) → changed w ≡ 1
-one-change w m n = simp (ne_eqb (mended w) w (λ e. n (m ∙ e)))
+use Rattle.mend.proofs.Measuring.{changes-next, changes-within}
 
 -- the numbers of changes after changes, two of each
 pub numbers_append : (a b : List Change) → numbers_of (a ++ b) ≡ numbers_of a ++ numbers_of b
@@ -48,60 +19,61 @@ unfolding numbers_of
 numbers_length [] = refl
 numbers_length (c ∷ a) = omega (arith, numbers_length a)
 
--- the words before a place are mended, and so many changes reported: with the words that are left these are all
-pub record Stage (before : List ℕ) (used : ℕ) (report words told : List ℕ) (count at : ℕ) : Type 0 where
-  pub same : drop at words ≡ drop at before
-  pub mending : sets words at (map mended (left before used at)) ≡ sets before 0 (map mended (take used before))
-  pub telling :
-      sets told (count * 2) (numbers_of (changes_from at (left before used at)))
-      ≡ sets report 0 (numbers_of (changes_from 0 (take used before)))
-  pub counting : count + length (changes_from at (left before used at)) ≡ length (changes_from 0 (take used before))
+pub then_told :
+    (report : List ℕ) (a b : List Change) →
+    sets (sets report 0 (numbers_of a)) (length a * 2) (numbers_of b) ≡ sets report 0 (numbers_of (a ++ b))
+then_told report a b =
+    let n : length a * 2 ≡ 0 + length (numbers_of a) = omega (arith, numbers_length a) in
+    rw (n, sets-append, numbers_append)
 
-pub stage_none : (before : List ℕ) (used : ℕ) (report : List ℕ) → Stage before used report before report 0 0
-stage_none before used report = record { same = refl; mending = refl; telling = refl; counting = omega arith }
+-- the words before a place are mended, and those from there on as they were
+abbrev pub half : List ℕ → ℕ → List ℕ
+half before i = map mended (take i before) ++ drop i before
 
-module _
-    {before report words told : List ℕ} {used count at : ℕ} (s : Stage before used report words told count at)
-    (k : used ≤ length before) where
-  module _ (l : length words ≡ length before) (h : at < used) where
-    -- the word at the place is as it was, and so are those after it
-    there : get_or words at 0 ∷ drop (suc at) words ≡ get_or before at 0 ∷ drop (suc at) before
-    there = sym (drop-cons words at 0 (omega arith)) ∙ s.same ∙ drop-cons before at 0 (omega arith)
+module _ (before : List ℕ) (i : ℕ) (h : i < length before) where
+  front : List ℕ
+  front = map mended (take i before)
 
-    word : get_or before at 0 ≡ get_or words at 0
-    word = sym (head-eq_of_cons-eq there)
+  front-length : length front ≡ i
+  unfolding front
+  front-length = rw (length-map, length-take-le i before (omega arith))
 
-    count_next :
-        length (changes_from at (left before used at))
-        ≡ changed (get_or words at 0) + length (changes_from (at + 1) (left before used (at + 1)))
-    count_next = rw word at (count_at before used at k h)
+  pub word-there : get_or (half before i) i 0 ≡ get_or before i 0
+  unfolding front
+  word-there = rw (drop_more before i 0 h) (get_or_at front _ _ 0 i front-length)
 
-    pub stage_room :
-        length (changes_from 0 (take used before)) ≤ length report / 2 → length told ≡ length report →
-        count + changed (get_or words at 0) ≤ length told / 2
-    stage_room r e = omega (arith, count_next, s.counting)
+  pub half-next : set (half before i) i (mended (get_or before i 0)) ≡ half before (i + 1)
+  unfolding front
+  half-next =
+      let w : ℕ = get_or before i 0 in
+      rw (drop_more before i 0 h, take_more before i 0 h, map-append)
+      (set_at front w _ (mended w) i front-length ∙ sym (append_assoc front (mended w ∷ []) (drop (i + 1) before)))
 
-    pub stage_more :
-        {words' told' : List ℕ} {next : ℕ} → MendsWord words at told count words' told' next →
-        Stage before used report words' told' next (at + 1)
-    stage_more {next = next} m =
-        let one = change_of at (get_or words at 0) in
-        let rest = changes_from (at + 1) (left before used (at + 1)) in
-        let e : changes_from at (left before used at) ≡ one ++ rest = rw word at (changes-at before used at k h) in
-        let p : next * 2 ≡ count * 2 + length (numbers_of one) =
-        omega (arith, m.counted, numbers_length one, changed-count at (get_or words at 0)) in
-        record {
-          same = rw (add-one, m.word) (drop-set-lt (suc at) words at _ (omega arith) ∙ tail-eq_of_cons-eq there);
-          mending = rw (add-one, m.word) (rw (one_left before used at k h, word, add-one) at s.mending);
-          telling =
-              rw (p, m.told)
-              (sets-append (numbers_of one) (numbers_of rest) told (count * 2)
-              ∙ ap (sets told (count * 2)) (sym (ap numbers_of e ∙ numbers_append one rest)) ∙ s.telling);
-          counting = omega (arith, m.counted, count_next, s.counting);
-        }
+-- the words before a place are mended, and their changes reported
+pub record Stage (before report words told : List ℕ) (count i : ℕ) : Type 0 where
+  pub mending : words ≡ half before i
+  pub telling : told ≡ sets report 0 (numbers_of (changes_from 0 (take i before)))
+  pub counting : count ≡ length (changes_from 0 (take i before))
 
-  pub stage_all : used ≤ at → MendsWords before used report words told
-  unfolding changes_from numbers_of
-  stage_all h =
-      let e = none_left before used at k h in
-      record { words = rw e at s.mending; told = rw e at s.telling }
+module _ {before report words told : List ℕ} {count i : ℕ} (s : Stage before report words told count i) (h : i < length before) where
+  word-is : get_or words i 0 ≡ get_or before i 0
+  word-is = rw s.mending (word-there before i h)
+
+  -- there is room for one change more
+  pub stage_room :
+      length (changes_from 0 before) ≤ length report / 2 → length told ≡ length report →
+      count + length (change_of i (get_or words i 0)) ≤ length told / 2
+  stage_room r e =
+      let next = simp length-append at (ap length (changes-next before i h)) in
+      rw word-is (omega (arith, s.counting, next, changes-within before (i + 1)))
+
+  -- one word more
+  pub stage_more :
+      {word next : ℕ} {told' : List ℕ} → MendsWord (get_or words i 0) i told count word told' next →
+      Stage before report (set words i word) told' next (i + 1)
+  stage_more m =
+      record {
+        mending = rw (m.mending, word-is, s.mending) (half-next before i h);
+        telling = m.told ∙ rw (word-is, s.telling, s.counting, then_told, ← changes-next before i h);
+        counting = m.counted ∙ rw (word-is, s.counting, changes-next before i h, length-append);
+      }

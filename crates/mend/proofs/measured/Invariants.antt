@@ -1,10 +1,9 @@
--- What was seen and the words that are left are all.
-use Rattle.std.proofs.Common.{◌-◌, ◌≤◌}
-use Rattle.mend.proofs.Measuring.{Seeing}
+-- The changes and the STOPs of the words so far.
+use Rattle.std.proofs.Common.{◌≡◌, length, take}
+use Rattle.words.specs.Words.{has_stop}
+use Rattle.mend.specs.Rule.{changes_from}
 use Rattle.mend.proofs.measured.Given as goal
 
-abbrev pub invariant-loop-at : goal.invariant-loop-at
-invariant-loop-at l = (l.at ≤ l.used) × Seeing l.words l.used l.changes l.stop l.at
-
-abbrev pub decreases-loop-at : goal.decreases-loop-at
-decreases-loop-at l = l.used - l.at
+abbrev pub invariant-loop-word : goal.invariant-loop-word
+invariant-loop-word l =
+    (l.changes ≡ length (changes_from 0 (take l.word-index l.words))) × (l.stop ≡ has_stop (take l.word-index l.words))

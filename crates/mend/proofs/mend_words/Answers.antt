@@ -1,17 +1,10 @@
--- The stages of the pass: there is room for one change more, one word more is mended, and all are.
+-- There is room for the change of one word more; the word is mended, and its change reported.
 use Rattle.std.proofs.Common.{rules}
-use Rattle.mend.proofs.Writing.{stage_room, stage_more, stage_all}
+use Rattle.mend.proofs.Writing.{stage_room, stage_more}
 use Rattle.mend.proofs.mend_words.Goals as goal
 
-pub mend_at-count-requires : goal.mend_at-count-requires
-mend_at-count-requires c =
-    let i = c.loop-at.invariant in
-    (search rules, stage_room i.3 c.requires.0 i.1 (search rules) c.requires.1 i.2)
+pub mend_word-count-requires : goal.mend_word-count-requires
+mend_word-count-requires c = stage_room c.loop-place.invariant (search rules) c.requires (search rules)
 
-pub loop-at-preserved : goal.loop-at-preserved
-loop-at-preserved c =
-    let i = c.loop-at.invariant in
-    (search rules, search rules, search rules, stage_more i.3 c.requires.0 i.1 (search rules) c.mend_at-count.ensures)
-
-pub returns : goal.returns
-returns c = stage_all c.loop-at.invariant.3 c.requires.0 (search rules)
+pub loop-place-preserved : goal.loop-place-preserved
+loop-place-preserved c = stage_more c.loop-place.invariant (search rules) c.mend_word-count.ensures
