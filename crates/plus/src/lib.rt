@@ -134,14 +134,7 @@ pub fn plus_page_write(
 ) -> Answered
     ensures { Writes chip (editor_by editor) store.old places.old address byte store.new places.new result }
 {
-    page::page_write(
-        chip,
-        Editor::from(editor),
-        store,
-        places,
-        address,
-        byte,
-    )
+    page::page_write(chip, Editor::from(editor), store, places, address, byte)
 }
 
 // The newest write of an editor's that is kept, taken back.
