@@ -16,11 +16,22 @@ use Rattle.common.specs.Answers.{served}
 use Rattle.take.proofs.Opening.{length_from}
 use Rattle.take.proofs.Trailers.{long, done_met}
 use Rattle.take.proofs.Numbers.{number-below, take_below, drop-below}
+use Rattle.replay.specs.declared.Lent.{Lent}
 use Rattle.replay.specs.declared.Player.{Player}
 use Rattle.replay.specs.Replay.{Progress, no_counts, fresh, call_by, later, refusal_counted, calls_from, replayed}
-use Rattle.replay.specs.Parts.{progress_by, lines_on, answer_in, record_replayed, Room, Calls, Opened}
+use Rattle.replay.specs.Parts.{progress_by, lines_on, answer_in, record_replayed, Room, Kept, Calls, Opened}
 use Rattle.replay.proofs.Counts.{count-more}
 use Rattle.replay.proofs.Lines.{replayed-on}
+
+pub kept-on : {l k m : Lent} → Kept l k → Kept k m → Kept l m
+kept-on a b =
+    record {
+      ram = b.ram ∙ a.ram;
+      owners = b.owners ∙ a.owners;
+      store = b.store ∙ a.store;
+      song = b.song ∙ a.song;
+      picture = b.picture ∙ a.picture;
+    }
 
 -- records are left, and played from here they come to the whole; the counts have room for each
 pub record Playing (o : Owners) (whole p : Progress) (left : List Record) : Type 0 where

@@ -12,11 +12,12 @@ use Rattle.editors.specs.declared.Owners.{Owners}
 use Rattle.chip.specs.Editors.{lists_of}
 use Rattle.take.specs.Record.{first_bad}
 use Rattle.take.specs.Open.{open_answer, records_of, Opening}
+use Rattle.replay.specs.declared.Lent.{Lent}
 use Rattle.replay.specs.declared.Player.{Player}
 use Rattle.replay.specs.declared.Replayed.{Replayed}
 use Rattle.replay.specs.Replay.{Progress, fresh, replayed}
 use Rattle.replay.specs.Contract.{replay_answer, outcome, Replays}
-use Rattle.replay.specs.Parts.{progress_by, Begun, Tells}
+use Rattle.replay.specs.Parts.{progress_of, Begun, Tells}
 use Rattle.replay.proofs.ByHand.{as_by_hand}
 use Rattle.replay.proofs.Possible.{reset_no_area, replayed_no_area}
 
@@ -72,12 +73,13 @@ module _ {ram store song picture file : List ℕ} {o : Owners} {p : Player} {r :
 
 -- served: all is played
 pub plays :
-    {ram store song picture file store' song' picture' : List ℕ} {o : Owners} {p : Player} {r : Replayed} {answer first count offset : ℕ} →
+    {ram store song picture file store' song' picture' : List ℕ} {o : Owners} {r : Replayed} {answer first count offset : ℕ} (p : Player) (l : Lent) →
     replay_answer ram store file ≡ open_answer file → Opening file answer first count offset → answer ≡ 0 →
-    progress_by p ram store' song' picture' ≡ replayed o (fresh ram store song picture) (records_of file) → Tells 0 0 p r →
+    l.ram.now ≡ ram → store' ≡ l.store.now → song' ≡ l.song.now → picture' ≡ l.picture.now →
+    progress_of p l ≡ replayed o (fresh ram store song picture) (records_of file) → Tells 0 0 p r →
     Replays ram store song picture o file store' song' picture' r
 unfolding outcome
-plays {ram} {store} {song} {picture} {file} {o = o} e k z s t =
+plays {ram} {store} {song} {picture} {file} {o = o} p l e k z same-ram same-store same-song same-picture s t =
     let d : replay_answer ram store file ≡ 0 = e ∙ sym k.answered ∙ z in
     record {
       answer = t.answer ∙ sym d;
@@ -85,9 +87,9 @@ plays {ram} {store} {song} {picture} {file} {o = o} e k z s t =
       chip = t.chip ∙ simp d (ap (λ (q : Progress). q.world.chip) s);
       lines = t.lines ∙ simp d (ap (λ (q : Progress). q.lines) s);
       counts = t.counts ∙ simp d (ap (λ (q : Progress). q.counts) s);
-      store-after = simp d (ap (λ (q : Progress). q.world.lent.store) s);
-      song-after = simp d (ap (λ (q : Progress). q.world.lent.song) s);
-      picture-after = simp d (ap (λ (q : Progress). q.world.lent.picture) s);
+      store-after = same-store ∙ simp d (ap (λ (q : Progress). q.world.lent.store) s);
+      song-after = same-song ∙ simp d (ap (λ (q : Progress). q.world.lent.song) s);
+      picture-after = same-picture ∙ simp d (ap (λ (q : Progress). q.world.lent.picture) s);
       no_area = ap lists_of (t.chip ∙ ap (λ (q : Progress). q.world.chip) s) ∙ replayed_no_area ram store song picture o (records_of file);
-      by_hand = λ y log w h. as_by_hand (rw (t.chip, t.lines, t.counts) s) h;
+      by_hand = λ y log w h. as_by_hand (rw (t.chip, t.lines, t.counts, same-store, same-song, same-picture) (rw same-ram at s)) h;
     }

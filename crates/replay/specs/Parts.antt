@@ -14,6 +14,7 @@ use Rattle.runs.specs.Call.{Call, answer_to}
 use Rattle.runs.specs.Run.{world_over}
 use Rattle.take.specs.declared.Record.{Record}
 use Rattle.take.specs.Open.{open_answer, count_of}
+use Rattle.replay.specs.declared.Lent.{Lent}
 use Rattle.replay.specs.declared.Player.{Player}
 use Rattle.replay.specs.declared.Replayed.{Replayed}
 use Rattle.replay.specs.Replay.{Progress, no_counts, call_by, later, refusal_counted}
@@ -22,6 +23,17 @@ use Rattle.replay.specs.Replay.{Progress, no_counts, call_by, later, refusal_cou
 abbrev pub progress_by : Player → List ℕ → List ℕ → List ℕ → List ℕ → Progress
 progress_by p ram store song picture =
     record { world = world_of p.chip ram store song picture []; lines = p.lines; counts = p.counts }
+
+abbrev pub progress_of : Player → Lent → Progress
+progress_of p l = progress_by p l.ram.now l.store.now l.song.now l.picture.now
+
+-- the same RAM, owners and buffers are lent
+pub record Kept (l k : Lent) : Type 0 where
+  pub ram : k.ram ≡ l.ram
+  pub owners : k.owners ≡ l.owners
+  pub store : k.store.ghost_name ≡ l.store.ghost_name
+  pub song : k.song.ghost_name ≡ l.song.ghost_name
+  pub picture : k.picture.ghost_name ≡ l.picture.ghost_name
 
 -- a chip with what lines move
 abbrev pub moved : Chip → Sound → Crtc → Bool → Chip

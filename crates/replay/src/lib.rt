@@ -7,7 +7,7 @@ ghost use Rattle.chip.specs.Interrupts.{acknowledge_answer, acknowledged};
 ghost use Rattle.chip.specs.Promises.{Answers};
 ghost use Rattle.take.specs.Open.{records_of};
 ghost use Rattle.replay.specs.Replay.{fresh, refusal_counted, later, replayed};
-ghost use Rattle.replay.specs.Parts.{progress_by, lines_on, record_replayed, Room, Calls, Begun, Opened, Tells};
+ghost use Rattle.replay.specs.Parts.{progress_of, lines_on, record_replayed, Room, Kept, Calls, Begun, Opened, Tells};
 ghost use Rattle.replay.specs.Contract.{Replays};
 
 use chip::{Answered, Chip};
@@ -16,7 +16,6 @@ use common::size::{RAM, STORE};
 use editors::{Editor, Owners};
 use reader::Reader;
 use sound::{Access, Accesses};
-use std::convert::TryFrom;
 use take::Record;
 use take::kind::Kind;
 
@@ -30,6 +29,16 @@ pub struct Replayed {
     pub bad: usize,
     pub lines: u32,
     pub counts: [u32; 24],
+}
+
+// What is lent for the calls: RAM, the pixel store, the places of both editors' undo records, and the owners that every start gives.
+#[derive(Drop)]
+struct Lent<'a> {
+    ram: &'a [u8],
+    store: &'a mut [u8],
+    song: &'a mut [u32; 256],
+    picture: &'a mut [u32; 256],
+    owners: Owners,
 }
 
 // How far a replay is, beside the buffers that are lent.
@@ -78,42 +87,6 @@ fn acknowledged(chip: Chip) -> Answered
     }
 }
 
-// The call that a record names. A kind that no call has changes nothing.
-fn called(
-    chip: Chip,
-    store: &mut [u8],
-    song: &mut [u32; 256],
-    picture: &mut [u32; 256],
-    owners: Owners,
-    entry: Record,
-) -> Answered
-    ensures { Calls chip store.old song.old picture.old owners entry store.new song.new picture.new result }
-{
-    let Ok(kind) = Kind::try_from(entry.kind) else {
-        return Answered { answer: DONE, chip };
-    };
-    let value = entry.value;
-    match kind {
-        Kind::WriteBc => chip::ports::write_bc(chip, value),
-        Kind::WriteBd => chip::ports::write_bd(chip, value),
-        Kind::Write7f => chip::ports::write_7f(chip, value),
-        Kind::SongWrite => page::page_write(chip, Editor::Song, store, song, entry.address, value),
-        Kind::Acknowledge => acknowledged(chip),
-        Kind::SongUndo => page::undo(chip, Editor::Song, store, song),
-        Kind::PictureWrite => page::page_write(
-            chip,
-            Editor::Picture,
-            store,
-            picture,
-            entry.address,
-            value,
-        ),
-        Kind::PictureUndo => page::undo(chip, Editor::Picture, store, picture),
-        Kind::Start => chip::table::start(chip, owners),
-        Kind::Mute => chip::mute::mute(chip, entry.address, value == 1),
-    }
-}
-
 // A refusal counted at its number.
 fn refusal_counted(mut counts: [u32; 24], answer: u8) -> [u32; 24]
     requires { (answer < 24) × Room counts }
@@ -123,28 +96,6 @@ fn refusal_counted(mut counts: [u32; 24], answer: u8) -> [u32; 24]
         counts[answer as usize] += 1;
     }
     counts
-}
-
-// One record: its line is reached, then its call is made.
-fn record_replayed(
-    p: Player,
-    ram: &[u8],
-    store: &mut [u8],
-    song: &mut [u32; 256],
-    picture: &mut [u32; 256],
-    owners: Owners,
-    entry: Record,
-) -> Player
-    requires { (length ram.now ≡ 65536) × Room p.counts }
-    ensures { progress_by result ram.now store.new song.new picture.new ≡ record_replayed owners (progress_by p ram.now store.old song.old picture.old) entry }
-{
-    let chip = lines_on(p.chip, ram, p.lines, entry.line);
-    let told = called(chip, store, song, picture, owners, entry);
-    Player {
-        chip: told.chip,
-        lines: p.lines.max(entry.line),
-        counts: refusal_counted(p.counts, told.answer),
-    }
 }
 
 // Nothing is played yet: the chip is the one after reset.
@@ -158,23 +109,71 @@ fn begun() -> Player
     }
 }
 
-// Every record of a take that opens, from reset, as a reader over it hands them out.
-fn records(
-    ram: &[u8],
-    store: &mut [u8],
-    song: &mut [u32; 256],
-    picture: &mut [u32; 256],
-    owners: Owners,
-    file: &[u8],
-) -> Player
-    requires { (length ram.now ≡ 65536) × Opened file.now }
-    ensures { progress_by result ram.now store.new song.new picture.new ≡ replayed owners (fresh ram.now store.old song.old picture.old) (records_of file.now) }
-{
-    let mut p = begun();
-    for entry in Reader::over(file) {
-        p = record_replayed(p, ram, store, song, picture, owners, entry);
+impl Lent<'_> {
+    // The call that a record names. A kind that no call has changes nothing.
+    fn called(&mut self, chip: Chip, entry: Record) -> Answered
+        ensures kept { Kept self.old self.new }
+        ensures calls { Calls chip self.old.store.now self.old.song.now self.old.picture.now self.old.owners entry self.new.store.now self.new.song.now self.new.picture.now result }
+    {
+        let Ok(kind) = Kind::try_from(entry.kind) else {
+            return Answered { answer: DONE, chip };
+        };
+        let Record { address, value, .. } = entry;
+        match kind {
+            Kind::WriteBc => chip::ports::write_bc(chip, value),
+            Kind::WriteBd => chip::ports::write_bd(chip, value),
+            Kind::Write7f => chip::ports::write_7f(chip, value),
+            Kind::SongWrite => page::page_write(
+                chip,
+                Editor::Song,
+                self.store,
+                self.song,
+                address,
+                value,
+            ),
+            Kind::Acknowledge => acknowledged(chip),
+            Kind::SongUndo => page::undo(chip, Editor::Song, self.store, self.song),
+            Kind::PictureWrite => page::page_write(
+                chip,
+                Editor::Picture,
+                self.store,
+                self.picture,
+                address,
+                value,
+            ),
+            Kind::PictureUndo => page::undo(chip, Editor::Picture, self.store, self.picture),
+            Kind::Start => chip::table::start(chip, self.owners),
+            Kind::Mute => chip::mute::mute(chip, address, value == 1),
+        }
     }
-    p
+
+    // One record: its line is reached, then its call is made.
+    fn record_replayed(&mut self, p: Player, entry: Record) -> Player
+        requires { (length self.old.ram.now ≡ 65536) × Room p.counts }
+        ensures kept { Kept self.old self.new }
+        ensures played { progress_of result self.new ≡ record_replayed self.old.owners (progress_of p self.old) entry }
+    {
+        let chip = lines_on(p.chip, self.ram, p.lines, entry.line);
+        let told = self.called(chip, entry);
+        Player {
+            chip: told.chip,
+            lines: p.lines.max(entry.line),
+            counts: refusal_counted(p.counts, told.answer),
+        }
+    }
+
+    // Every record of a take that opens, from reset, as a reader over it hands them out.
+    fn records(&mut self, file: &[u8]) -> Player
+        requires { (length self.old.ram.now ≡ 65536) × Opened file.now }
+        ensures kept { Kept self.old self.new }
+        ensures played { progress_of result self.new ≡ replayed self.old.owners (fresh self.old.ram.now self.old.store.now self.old.song.now self.old.picture.now) (records_of file.now) }
+    {
+        let mut p = begun();
+        for entry in Reader::over(file) {
+            p = self.record_replayed(p, entry);
+        }
+        p
+    }
 }
 
 // What replay gives: this answer, and how far it is.
@@ -213,6 +212,12 @@ pub fn replay(
     if opened.answer != DONE {
         return told(opened.answer, opened.bad, begun());
     }
-    let end = records(ram, store, song, picture, owners, file);
-    told(DONE, 0, end)
+    let mut lent = Lent {
+        ram,
+        store,
+        song,
+        picture,
+        owners,
+    };
+    told(DONE, 0, lent.records(file))
 }

@@ -4,7 +4,6 @@ ghost use Rattle.take.specs.Bytes.{number_of};
 ghost use Rattle.take.specs.Record.{record_in};
 
 use crate::Record;
-use std::convert::TryInto;
 
 // The number in the 4 bytes from a place on.
 pub fn number_at(bytes: &[u8], at: usize) -> u32

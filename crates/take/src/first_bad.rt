@@ -8,7 +8,6 @@ ghost use Rattle.take.specs.declared.Record.{Record};
 use crate::kind::Kind;
 use crate::trailer::Ends;
 use crate::{Record, bytes};
-use std::convert::TryFrom;
 
 // Whether a record is bad after one with this line number.
 #[tactic(auto, unfolding(crate::specs::Record::bad))]

@@ -4,7 +4,6 @@ ghost use Rattle.take.specs.Record.{has_address, has_value, value_fits};
 ghost use Rattle.take.specs.Kind.{kind_number, KindOf};
 
 use common::answer::Refusal;
-use std::convert::TryFrom;
 
 // The call of a record.
 #[derive(Clone, Copy, PartialEq, Eq)]
@@ -34,7 +33,7 @@ impl TryFrom<u8> for Kind {
 
     ghost try_from_gives = { KindOf };
 
-    fn try_from(number: u8) -> Result<Kind, Refusal> {
+    fn try_from(number: u8) -> Result<Self, Refusal> {
         match number {
             1 => Ok(Kind::WriteBc),
             2 => Ok(Kind::WriteBd),

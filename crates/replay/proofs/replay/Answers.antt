@@ -1,5 +1,5 @@
 -- By the lengths, then by the take.
-use Rattle.std.proofs.Common.{inl, inr}
+use Rattle.std.proofs.Common.{inl, inr, rules}
 use Rattle.replay.proofs.Playing.{opened}
 use Rattle.replay.proofs.Ways.{ram_wrong, store_wrong, lengths-right, by_length, by-take, plays}
 use Rattle.replay.proofs.replay.Goals as goal
@@ -20,12 +20,14 @@ returns-then-opened-ne-DONE c =
     by-take (lengths-right a.ram.now a.store.now a.file.now c.if-ram-ne-RAM.false c.if-store-ne-STORE.false) c.open-opened.ensures
     c.if-opened-ne-DONE.true c.begun-then-opened-ne-DONE.ensures c.told-then-opened-ne-DONE.ensures
 
-pub records-end-requires : goal.records-end-requires
-records-end-requires c =
+pub records-requires : goal.records-requires
+records-requires c =
     (c.if-ram-ne-RAM.false, opened (λ i. (c.type_inv.file i).fits) c.open-opened.ensures c.if-opened-ne-DONE.false)
 
 pub returns : goal.returns
 returns c =
     let a = c.args in
-    plays (lengths-right a.ram.now a.store.now a.file.now c.if-ram-ne-RAM.false c.if-store-ne-STORE.false) c.open-opened.ensures
-    c.if-opened-ne-DONE.false c.records-end.ensures c.told-2.ensures
+    let kept = c.records.ensures.kept in
+    plays c.records.result c.records.new.self
+    (lengths-right a.ram.now a.store.now a.file.now c.if-ram-ne-RAM.false c.if-store-ne-STORE.false) c.open-opened.ensures
+    c.if-opened-ne-DONE.false (rw kept.ram) (search rules) (search rules) (search rules) c.records.ensures.played c.told-2.ensures
