@@ -74,14 +74,3 @@ module _ {used : ℕ} {places : List ℕ} {bytes from : ℕ} where
         aside = λ k h on. before.aside k (lt_of_not-le (λ g. clash on (off k g h))) on;
         still = before.still;
       }
-
-  pub sought_more :
-      {a : ℕ} {at : Sought} → SoughtTo used places bytes from a → Passed used places bytes a 64 at →
-      SoughtTo used places bytes from at.address
-  sought_more s p =
-      record {
-        even = p.even s.even;
-        above = omega (arith, s.above, p.up);
-        bound = p.bound;
-        low = λ b g clear. p.low b (s.low b g clear) clear;
-      }

@@ -42,7 +42,7 @@ pub record Changed : Type 0 where
   pub area : Area
   pub answer : ℕ
 
--- refused, the area that was
+-- by the code's Result: refused, the area that was
 abbrev pub told : Area → Result Area Refusal → Changed
 told area (Ok after) = record { area = after; answer = done }
 told area (Err refusal) = record { area = area; answer = number refusal }

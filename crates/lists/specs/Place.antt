@@ -36,6 +36,7 @@ pub record Placed : Type 0 where
 abbrev pub refused : ℕ → Area → Placed
 refused number area = record { area = area; answer = number; address = 0; handle = 0 }
 
+-- by the code's Result
 abbrev pub told_placed : Area → Result NewList Refusal → Placed
 told_placed area (Ok list) = record { area = list.area; answer = done; address = list.address; handle = list.handle }
 told_placed area (Err refusal) = refused (number refusal) area

@@ -1,4 +1,4 @@
--- How the code looks for room, for a handle and for a word in a list. No public promise cites this module.
+-- How the code looks for room and for a word in a list. No public promise cites this module.
 use Rattle.std.specs.Prelude.{◌≡◌, Bool, true, List, ◌⊎◌, ℕ, ◌+◌, ◌%◌, ◌<◌, ◌≤◌, leb, ltb}
 use Rattle.common.specs.Choice.{both, bit}
 use Rattle.common.specs.Sizes.{ram_bytes}

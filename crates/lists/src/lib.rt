@@ -32,10 +32,10 @@ pub struct NewList {
     pub handle: u32,
 }
 
-// Where a place starts.
+// Where a place starts. A place is one number, since C lends 64 of them.
 #[tactic(auto, unfolding(crate::specs::Room::start_of))]
 fn start_of(place: u32) -> u32
-    ensures { (result ≡ start_of place) × (result ≤ 262142) }
+    ensures { result ≡ start_of place }
 {
     place / 32768 * 2
 }
@@ -172,7 +172,7 @@ impl Area {
     {
         let mut at = Sought {
             address: from,
-            above: u32::MAX,
+            above: u32::MAX, // none seen yet
         };
         // from there on no handle has a list
         let end = 64 - self.used.leading_zeros() as usize;

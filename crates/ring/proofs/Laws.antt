@@ -1,17 +1,10 @@
 -- An entry pushed and popped.
-use mathlib.Core.Path.{◌≡◌, refl, ap, subst}
-use mathlib.Core.Bool.{Bool, true, false}
-use mathlib.Core.List.{List, [], ◌∷◌}
-use Prim.Native.Nat.{ℕ, zero, suc, ◌+◌, ◌%◌, ◌-◌, ◌<◌, ◌≤◌}
-use native.Mathlib.Nat.{mod-eq_of_lt}
-use native.Mathlib.Numerals.{add-one, unary_clauses}
-use native.Mathlib.Omega.{arith}
-use borrow.Author.Tests.{le-leb, lt-leb, eqb-true, eqb-false}
-use lib.Dec.{eqb}
+use Rattle.std.proofs.Common.{◌≡◌, ℕ, zero, suc, ◌+◌, ◌%◌, ◌-◌, ◌<◌, ◌≤◌, Bool, true, false, List, [], ◌∷◌, length, take, get_or, set, eqb, refl, ap, subst, arith, add-one, mod-eq_of_lt, le-leb, eqb-true, get_or-set_same, get_or-set_other}
+use borrow.Author.Tests.{lt-leb, eqb-false}
+use native.Mathlib.Numerals.{unary_clauses}
 use Rattle.common.proofs.Order.{either_side}
 use Rattle.common.specs.Choice.{if}
-use lib.ListN.{length, take, get_or, set}
-use lib.Seq.{take-nil, get_or-set_same, get_or-set_other}
+use lib.Seq.{take-nil}
 use Rattle.ring.specs.declared.Undo.{Undo}
 use Rattle.ring.specs.Ring.{back, entries, record_of, Puts, popped, tail, head}
 

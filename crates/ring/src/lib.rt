@@ -8,7 +8,7 @@ ghost use Rattle.ring.specs.Ring.{record_of, head, pushed, popped, Puts};
 // How many places the ring has, and so how many entries it keeps.
 const PLACES: u16 = 256;
 
-// The state of a record: the place that the next entry goes to, and how many entries are kept.
+// The state of a record: the place that the next entry goes to, and how many entries are kept. C keeps it beside the places.
 #[repr(C)]
 #[derive(Clone, Copy, Default)]
 pub struct Undo {
@@ -40,7 +40,7 @@ impl Undo {
         }
     }
 
-    // The newest entry, or 0 of an empty record.
+    // The newest entry, or 0 of an empty record, as `page` promises.
     pub fn newest(self, places: &[u32; 256]) -> u32
         ensures { result ≡ head (record_of self places.now) }
     {

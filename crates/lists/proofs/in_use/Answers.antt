@@ -14,19 +14,19 @@ by_place p g h t = tests-rule (rw (g, h) at t) (start-even p) (end_even p)
 
 pub returns-then-counter-eq0 : goal.returns-then-counter-eq0
 returns-then-counter-eq0 c =
-    by_place _ c.start_of.ensures.0 c.end_of.ensures.0 (by_one c.if-counter-eq0.true (range_within c.start_of.result c.end_of.result c.args.address c.contains.ensures.value))
+    by_place _ c.start_of.ensures c.end_of.ensures.0 (by_one c.if-counter-eq0.true (range_within c.start_of.result c.end_of.result c.args.address c.contains.ensures.value))
 
 pub returns-then-mark-address : goal.returns-then-mark-address
 returns-then-mark-address c =
-    by_place _ c.start_of.ensures.0 c.end_of.ensures.0 (by-words c.if-counter-eq0.false c.if-mark-address.true c.meets.ensures)
+    by_place _ c.start_of.ensures c.end_of.ensures.0 (by-words c.if-counter-eq0.false c.if-mark-address.true c.meets.ensures)
 
 pub returns-then-contains : goal.returns-then-contains
 returns-then-contains c =
-    by_place _ c.start_of.ensures.0 c.end_of.ensures.0
+    by_place _ c.start_of.ensures c.end_of.ensures.0
     (by_the_mark c.if-counter-eq0.false c.if-contains.true (range_within c.start_of.result c.end_of.result c.args.mark c.contains-2.ensures.value))
 
 pub returns-else-contains : goal.returns-else-contains
 returns-else-contains c =
-    by_place _ c.start_of.ensures.0 c.end_of.ensures.0
+    by_place _ c.start_of.ensures c.end_of.ensures.0
     (by-neither c.if-mark-address.false c.if-contains.false (range_within c.start_of.result c.end_of.result c.args.mark c.contains-2.ensures.value)
     (range_within c.start_of.result c.end_of.result c.args.address c.contains-else-contains.ensures.value))
