@@ -13,11 +13,11 @@ use lib.ListN.{length, get_or, set, replicate}
 use lib.Seq.{get_or-set_same, get_or-set_other}
 use Rattle.common.proofs.Order.{either_side}
 use Rattle.screen.specs.MainLine.{LinePens}
-use Rattle.overlay.specs.Overlay.{first_on, pixel_on, Kept}
+use Rattle.overlay.specs.Overlay.{first_on, pixel_on}
 use Rattle.overlay.specs.Stretches.{sprite, cover_pixel, first_cover, Spanned, Joined}
-use Rattle.overlay.specs.declared.LineSprite.{LineSprite}
-use Rattle.overlay.specs.declared.LineSprites.{LineSprites}
-use Rattle.overlay.specs.declared.Spans.{Spans}
+use Rattle.overlay.specs.declared.shown.LineSprite.{LineSprite}
+use Rattle.overlay.specs.declared.shown.LineSprites.{LineSprites}
+use Rattle.overlay.specs.declared.shown.Spans.{Spans}
 use Rattle.overlay.specs.declared.Stretch.{Stretch}
 use Rattle.overlay.proofs.Search.{search-more, search-found}
 use Rattle.overlay.proofs.Covers.{covers_show}
@@ -101,11 +101,11 @@ none_covers store list covers none = record { inside = λ x g h. rw none; below 
 
 -- those that cover a stretch show what the sprites on the line do
 pub stretch_same :
-    (store : List ℕ) {shown : LineSprites} {spans : Spans} {covers : List ℕ} {from end : ℕ} {s : Stretch} → Kept shown →
+    (store : List ℕ) {shown : LineSprites} {spans : Spans} {covers : List ℕ} {from end : ℕ} {s : Stretch} →
     Spanned shown spans → Joined spans from end covers s → (x v : ℕ) → from ≤ x → x < s.until →
     covered_at store shown.list covers s.count x v ≡ over_at store shown.list shown.count x v
 unfolding covered_at over_at
-stretch_same store kept spanned joined x v past near = rw (covers_show spanned kept joined store x past near)
+stretch_same store spanned joined x v past near = rw (covers_show spanned joined store x past near)
 
 -- with no sprite at all nothing is laid
 pub none_laid : (store : List ℕ) (list : List LineSprite) {before : List ℕ} {count from to : ℕ} → count ≡ 0 → Changed (over_at store list count) from to before before

@@ -13,7 +13,7 @@ use Rattle.common.specs.Sizes.{ram_bytes, store_bytes, line_bytes}
 use Rattle.crtc.specs.Line.{scroll_lines}
 use Rattle.picture.specs.Screen.{row_line}
 use Rattle.overlay.specs.Overlay.{Overlay}
-use Rattle.overlay.specs.declared.LineSprites.{LineSprites}
+use Rattle.overlay.specs.declared.shown.LineSprites.{LineSprites}
 use Rattle.common.proofs.Order.{either_side}
 use Rattle.chip.specs.declared.Chip.{Chip}
 use Rattle.draw.specs.declared.Edges.{Edges}

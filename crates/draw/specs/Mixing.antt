@@ -7,8 +7,8 @@ use Rattle.crtc.specs.declared.Counters.{Counters}
 use Rattle.screen.specs.MainLine.{line_pen}
 use Rattle.overlay.specs.Overlay.{first_on}
 use Rattle.overlay.specs.Stretches.{first_cover}
-use Rattle.overlay.specs.declared.LineSprite.{LineSprite}
-use Rattle.overlay.specs.declared.LineSprites.{LineSprites}
+use Rattle.overlay.specs.declared.shown.LineSprite.{LineSprite}
+use Rattle.overlay.specs.declared.shown.LineSprites.{LineSprites}
 use Rattle.draw.specs.declared.Edges.{Edges}
 use Rattle.draw.specs.declared.Main.{Main}
 

@@ -6,7 +6,6 @@ ghost use Rattle.std.specs.Prelude.{◌≡◌, ◌+◌, ◌*◌, ◌%◌, ◌≤
 ghost use Rattle.common.specs.Refusals.{answer_number};
 ghost use Rattle.crtc.specs.Line.{scroll_lines};
 ghost use Rattle.picture.specs.Screen.{row_line};
-ghost use Rattle.overlay.specs.Overlay.{Kept};
 ghost use Rattle.overlay.specs.Stretches.{Covered};
 ghost use Rattle.draw.specs.Drawing.{draw_answer, Draws};
 ghost use Rattle.draw.specs.Mixing.{left_of, right_of, main_at, over_at, covered_at, mixed_at, Has, Changed};
@@ -15,7 +14,8 @@ use chip::Chip;
 use common::answer::Refusal;
 use common::size::{LINE, RAM, STORE};
 use crtc::{Counters, Registers};
-use overlay::{LineSprite, LineSprites, Spans, Stretch};
+use overlay::Stretch;
+use overlay::shown::{LineSprite, LineSprites, Spans};
 
 // Where a line is border, which is below `left` and from `right` on.
 #[derive(Clone, Copy)]
@@ -83,7 +83,7 @@ fn lay_stretch(
 
 // The sprites between the edges, stretch by stretch.
 fn lay_sprites(line: &mut [u8; 640], shown: &LineSprites, store: &[u8; 4096], edges: Edges)
-    requires { (edges.left ≤ edges.right) × (edges.right ≤ 640) × Kept shown.now }
+    requires { (edges.left ≤ edges.right) × (edges.right ≤ 640) }
     ensures { Changed (over_at store.now shown.now.list shown.now.count) edges.left edges.right line.old line.new }
 {
     if shown.count == 0 {
@@ -112,7 +112,7 @@ fn mix(
     store: &[u8; 4096],
     edges: Edges,
 )
-    requires { (edges.right ≤ 640) × (main.scroll ≤ 16) × Kept shown.now }
+    requires { (edges.right ≤ 640) × (main.scroll ≤ 16) }
     ensures { Has (mixed_at ram.now main shown.now store.now edges) 640 line.new }
 {
     line.fill(16);

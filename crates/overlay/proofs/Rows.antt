@@ -12,7 +12,8 @@ use Rattle.std.specs.Prelude.{Option, Some, None}
 use Rattle.common.specs.Choice.{if}
 use Rattle.picture.specs.declared.sprite.Sprite.{Sprite}
 use Rattle.picture.specs.SpriteLine.{y_scale, x_scale, cell_at, pixel_at}
-use Rattle.overlay.specs.Overlay.{Magnification, divided, Cell, OnLine, pixel_on, Sized}
+use Rattle.overlay.specs.Kept.{Magnification, Sized}
+use Rattle.overlay.specs.Overlay.{divided, Cell, OnLine, pixel_on}
 
 -- 1, 2 and 4 are not 0
 pub on_some : (m : ℕ) → Magnification m → (m ≡ 0 → ⊥)

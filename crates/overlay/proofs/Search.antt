@@ -13,8 +13,9 @@ use Rattle.common.specs.Choice.{if}
 use Rattle.picture.specs.Sprites.{off_sprite}
 use Rattle.picture.specs.SpriteLine.{pixel_at}
 use Rattle.picture.specs.declared.sprite.Sprite.{Sprite}
-use Rattle.overlay.specs.declared.LineSprite.{LineSprite}
-use Rattle.overlay.specs.Overlay.{first_of, first_pixel, pixel_on, first_on, no_line_sprite, Sized}
+use Rattle.overlay.specs.declared.shown.LineSprite.{LineSprite}
+use Rattle.overlay.specs.Kept.{no_line_sprite, AllSized, Sized}
+use Rattle.overlay.specs.Overlay.{first_of, first_pixel, pixel_on, first_on}
 use Rattle.common.proofs.Order.{either_side}
 
 -- the first of so many depends on those alone
@@ -58,7 +59,7 @@ module _ (f : ℕ → ℕ) (k : ℕ) {p : ℕ} (none : first_of f k ≡ 0) (here
 
 -- of the first n sprites the line shows what they have there, and each that is kept has its size
 pub record ShowsFirst (sprites : List Sprite) (y n : ℕ) (list : List LineSprite) (count : ℕ) : Type 0 where
-  pub sized : (k : ℕ) → k < count → Sized (get_or list k no_line_sprite)
+  pub sized : AllSized list count
   pub shows : (store : List ℕ) (x : ℕ) → first_on store list x count ≡ first_pixel store sprites y x n
 
 pub shows-none : {sprites : List Sprite} {y : ℕ} {list : List LineSprite} → ShowsFirst sprites y 0 list 0

@@ -7,8 +7,9 @@ use Rattle.common.specs.Choice.{if}
 use Rattle.picture.specs.Sprites.{off_sprite}
 use Rattle.picture.specs.SpriteLine.{y_scale, cell_at, pixel_at}
 use Rattle.picture.specs.declared.sprite.Sprite.{Sprite}
-use Rattle.overlay.specs.declared.LineSprite.{LineSprite}
-use Rattle.overlay.specs.declared.LineSprites.{LineSprites}
+use Rattle.overlay.specs.Kept.{no_line_sprite}
+use Rattle.overlay.specs.declared.shown.LineSprite.{LineSprite}
+use Rattle.overlay.specs.declared.shown.LineSprites.{LineSprites}
 
 -- the first of so many that is not 0, else 0
 abbrev pub first_of : (ℕ → ℕ) → ℕ → ℕ
@@ -20,10 +21,6 @@ unfoldable pub first_pixel : List ℕ → List Sprite → ℕ → ℕ → ℕ �
 first_pixel store sprites y x n = first_of (λ k. pixel_at store k (get_or sprites k off_sprite) y x) n
 
 -- ---- from here on the sprites on a line as the code keeps them; the promise of drawing cites none of it
-
--- a magnification that is not off: 1, 2 or 4
-pub record Magnification (m : ℕ) : Type 0 where
-  pub four : (m ≡ 1 → ⊥) → (m ≡ 2 → ⊥) → m ≡ 4
 
 -- a number divided by a magnification, which is 1, 2 or 4; any other counts as 4
 abbrev pub divided : ℕ → ℕ → ℕ
@@ -43,10 +40,6 @@ OnLine s y (Some row) = Cell (y_scale s) (pos y -ℤ s.y) (Some row)
 unfoldable pub pixel_on : List ℕ → LineSprite → ℕ → ℕ
 pixel_on store e x = cell_at e.magnification (pos x -ℤ e.x) (λ column. get_or store (e.pixels + column) 0 % 16)
 
--- what shows nowhere
-abbrev pub no_line_sprite : LineSprite
-no_line_sprite = record { x = pos 0; magnification = 0; pixels = 0 }
-
 -- the pixel at x of the first of so many that has one, else 0
 unfoldable pub first_on : List ℕ → List LineSprite → ℕ → ℕ → ℕ
 first_on store list x count = first_of (λ k. pixel_on store (get_or list k no_line_sprite) x) count
@@ -61,17 +54,6 @@ pub record Ends (z : ℤ) (span right : ℕ) : Type 0 where
   pub before : (p d : ℕ) → p < right → pos p -ℤ z ≡ pos d → d < span
   pub after : (p d : ℕ) → right ≤ p → pos p -ℤ z ≡ pos d → span ≤ d
 
--- one that is kept has a magnification, and the 16 pixels of its row lie in the store
-pub record Sized (e : LineSprite) : Type 0 where
-  pub magnified : Magnification e.magnification
-  pub stored : e.pixels ≤ 4080
-
--- so many of a list of sixteen are kept
-pub record Kept (r : LineSprites) : Type 0 where
-  pub bound : r.count ≤ 16
-  pub sized : (k : ℕ) → k < r.count → Sized (get_or r.list k no_line_sprite)
-
 -- at every x the sprites on a line show what the sixteen have there; which of them have a place in the list is left open
 pub record Overlay (sprites : List Sprite) (y : ℕ) (r : LineSprites) : Type 0 where
-  pub kept : Kept r
   pub first : (store : List ℕ) (x : ℕ) → first_on store r.list x r.count ≡ first_pixel store sprites y x 16

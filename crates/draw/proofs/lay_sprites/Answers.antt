@@ -16,5 +16,5 @@ loop-s-preserved c =
       j.inside,
       carried_on j.carried _ more,
       changed-on l.invariant.3 l.invariant.0 more (changed-same c.lay_stretch.ensures
-          (stretch_same _ c.requires.2 c.of-spans.ensures j)),
+          (stretch_same _ c.of-spans.ensures j)),
     )
