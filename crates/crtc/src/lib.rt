@@ -88,11 +88,11 @@ impl Registers {
 
 impl Counters {
     // The line's number as the two compares see it.
-    fn line_number(self, rows: u16) -> u16
-        requires { 0 < rows }
-        ensures { result ≡ line_number rows self }
+    fn line_number<const ROWS: u16>(self) -> u16
+        requires { 0 < ROWS }
+        ensures { result ≡ line_number ROWS self }
     {
-        self.vc as u16 % rows * 8 + self.rc as u16 % 8
+        self.vc as u16 % ROWS * 8 + self.rc as u16 % 8
     }
 
     // Whether PRI names this line; an adjust line is never named.
@@ -100,7 +100,7 @@ impl Counters {
     fn raster_due(self, v: Video) -> bool
         ensures { result ≡ raster_due v self }
     {
-        v.pri != 0 && !self.adjust && v.pri as u16 == self.line_number(64)
+        v.pri != 0 && v.pri as u16 == self.line_number::<64>() && !self.adjust
     }
 
     // Whether the split line names this line; an adjust line with RC of 8 or more is never named.
@@ -109,7 +109,7 @@ impl Counters {
         ensures { result ≡ split_due v self }
     {
         v.split_line != 0
-            && v.split_line as u16 == self.line_number(32)
+            && v.split_line as u16 == self.line_number::<32>()
             && (!self.adjust || self.rc < 8)
     }
 

@@ -85,7 +85,7 @@ pub fn disturbance(access: Access) -> u8
     }
 }
 
-// What a channel did on a line: sat out, or executed a word of this kind with these low 12 bits.
+// What a channel did on a line: sat out, or executed a word of this kind with these low 12 bits. No Option, since document 01 names this form.
 #[derive(Clone, Copy, PartialEq, Eq)]
 pub enum Did {
     SatOut,
@@ -99,7 +99,7 @@ pub struct Turn {
     pub did: Did,
 }
 
-// A channel's entry in the report.
+// A channel's entry in the report, which the crates above read by this name.
 #[derive(Clone, Copy)]
 pub struct Entry {
     pub did: Did,
