@@ -1,11 +1,6 @@
 -- The digits of a number in a base: their characters, and how many there are.
-use mathlib.Core.Path.{◌≡◌, refl, ◌∙◌}
-use mathlib.Core.List.{◌++◌, append_assoc, append-nil}
-use Prim.Native.Nat.{ℕ, zero, suc, ◌+◌, ◌/◌, ◌^◌, ◌≤◌, ◌<◌}
-use native.Mathlib.Nat.{add-zero, add-suc, pow-zero, pow-succ', div-div-eq-div-mul, div-one}
-use native.Mathlib.Omega.{arith}
-use lib.ListN.{length, length-append}
-use borrow.Author.Tests.{lt-ltb, le-ltb}
+use Rattle.std.proofs.Common.{◌≡◌, refl, ◌∙◌, ◌++◌, append_assoc, append-nil, ℕ, zero, suc, ◌+◌, ◌/◌, ◌^◌, ◌≤◌, ◌<◌, add-zero, add-suc, div-one, arith, length, length-append, lt-ltb, le-ltb}
+use Rattle.std.proofs.Math.Nat.{pow-zero, pow-succ', div-div-eq-div-mul}
 use Rattle.common.proofs.Order.{either_side}
 use Rattle.digits.specs.Digits.{glyph, digits, digit_count, decimal}
 

@@ -1,8 +1,7 @@
 -- What the passes say of the answers of print and read.
-use Rattle.std.proofs.Common.{◌≡◌, ℕ, ◌≤◌, true, List, [], ◌++◌, length, drop, sym, ◌∙◌, arith, zero-add, refl}
+use Rattle.std.proofs.Common.{◌≡◌, ℕ, ◌≤◌, true, List, [], ◌++◌, length, drop, sym, ◌∙◌, arith, zero-add, refl, le-leb}
 use Rattle.std.specs.Prelude.{leb}
-use borrow.Author.Tests.{le-leb}
-use lib.Seq.{sets-eq}
+use Rattle.std.proofs.Math.Seq.{sets-eq}
 use Rattle.common.specs.Answers.{done}
 use Rattle.common.specs.Storing.{Puts}
 use Rattle.listing.specs.Text.{text_of, Parsed}

@@ -1,11 +1,5 @@
 -- The first bad line is one: it ends with the first LF of the rest, or with the rest, and is no word's.
-use mathlib.Core.Path.{◌≡◌, refl, ap, ◌∙◌}
-use mathlib.Core.Bool.{Bool, true, false}
-use mathlib.Core.List.{List, [], ◌∷◌, ◌++◌, append_assoc}
-use Prim.Native.Nat.{ℕ, ◌<◌}
-use native.Mathlib.Omega.{arith}
-use lib.Dec.{eqb}
-use lib.ListN.{length, drop}
+use Rattle.std.proofs.Common.{◌≡◌, refl, ap, ◌∙◌, Bool, true, false, List, [], ◌∷◌, ◌++◌, append_assoc, ℕ, ◌<◌, arith, eqb, length, drop}
 use Rattle.common.specs.Choice.{if}
 use Rattle.words.specs.Words.{kind_of}
 use Rattle.mnemonic.specs.Mnemonic.{lf, text_by, text_line}

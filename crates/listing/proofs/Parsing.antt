@@ -1,12 +1,5 @@
 -- What a text reads as: every text is the lines of one list of words and one rest.
-use mathlib.Core.Path.{◌≡◌, refl, ap, sym, ◌∙◌}
-use mathlib.Core.Bool.{Bool, true, false}
-use mathlib.Core.List.{List, [], ◌∷◌, ◌++◌, append_assoc, append-nil}
-use Prim.Native.Nat.{ℕ, zero, suc, ◌≤◌, ◌<◌}
-use native.Mathlib.Omega.{arith}
-use borrow.Author.Tests.{ltb-true, ltb-false}
-use lib.Dec.{ltb}
-use lib.ListN.{length, drop, length-append}
+use Rattle.std.proofs.Common.{◌≡◌, refl, ap, sym, ◌∙◌, Bool, true, false, List, [], ◌∷◌, ◌++◌, append_assoc, append-nil, ℕ, zero, suc, ◌≤◌, ◌<◌, arith, ltb-true, ltb-false, ltb, length, drop, length-append}
 use Rattle.common.specs.Lists.{begins}
 use Rattle.common.proofs.Begins.{begins-with, begins-true}
 use Rattle.mnemonic.specs.Mnemonic.{text_line}

@@ -1,12 +1,8 @@
 -- What print and read promise is about something: every list of words is printed into every buffer with room for its text, every such
 -- text is read into every buffer with room for the words, and there are such buffers.
-use mathlib.Core.Path.{refl}
-use mathlib.Core.List.{List, []}
-use Prim.Native.Nat.{ℕ, ◌≤◌}
-use native.Mathlib.Omega.{arith}
-use borrow.Author.Tests.{le-leb}
-use lib.ListN.{length, replicate, length-replicate}
-use lib.Seq.{sets}
+use Rattle.std.proofs.Common.{refl, List, [], ℕ, ◌≤◌, arith, le-leb, length, replicate}
+use Rattle.std.proofs.Math.ListN.{length-replicate}
+use Rattle.std.proofs.Math.Seq.{sets}
 use Rattle.common.specs.Answers.{done}
 use Rattle.listing.specs.Text.{text_of, Words}
 use Rattle.listing.specs.Print.{Printing}

@@ -1,13 +1,6 @@
 -- Read serves exactly the texts of words; what is printed reads as the same words, and what is read prints as the same text.
-use mathlib.Core.Path.{◌≡◌, refl, ap, sym, ◌∙◌}
-use mathlib.Core.Bool.{Bool, true, false}
-use mathlib.Core.List.{List, [], ◌∷◌, append-nil}
-use Prim.Native.Nat.{ℕ, suc, ◌≤◌, ◌<◌}
-use native.Mathlib.Omega.{arith}
-use borrow.Author.Tests.{le-leb, leb-true}
-use lib.Dec.{leb}
-use lib.ListN.{length, take, get_or}
-use lib.Seq.{sets}
+use Rattle.std.proofs.Common.{◌≡◌, refl, ap, sym, ◌∙◌, Bool, true, false, List, [], ◌∷◌, append-nil, ℕ, suc, ◌≤◌, ◌<◌, arith, le-leb, leb-true, leb, length, take, get_or}
+use Rattle.std.proofs.Math.Seq.{sets}
 use Rattle.common.proofs.Lists.{front}
 use Rattle.common.specs.Choice.{if}
 use Rattle.common.specs.Answers.{done, too_small}

@@ -1,8 +1,7 @@
 -- How far a text is read: the passes that check it and store its words.
-use Rattle.std.proofs.Common.{◌≡◌, ℕ, zero, suc, ◌+◌, ◌<◌, ◌≤◌, List, [], ◌∷◌, ◌++◌, length, take, drop, get_or, set, sym, ap, ◌∙◌, arith, append_assoc, length-append, add-one, drop-cons, drop_at}
+use Rattle.std.proofs.Common.{◌≡◌, ℕ, zero, suc, ◌+◌, ◌<◌, ◌≤◌, List, [], ◌∷◌, ◌++◌, length, take, drop, get_or, set, sym, ap, ◌∙◌, arith, append_assoc, length-append, add-one, drop-cons, drop_at, le_of_suc-le-suc}
 use Rattle.std.specs.Prelude.{◌≢◌, Ok, Err}
 use Rattle.std.proofs.lemmas.List.{append_cancel_left, drop_all, nil_from_length, take_all, take_more, take_more_set}
-use native.Mathlib.Nat.{le_of_suc-le-suc}
 use Rattle.common.proofs.Order.{either_side}
 use Rattle.mnemonic.specs.Mnemonic.{text_line}
 use Rattle.guess.specs.Guess.{guess_of}

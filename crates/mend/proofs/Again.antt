@@ -1,12 +1,7 @@
 -- Mending what is mended: nothing is left to do.
-use mathlib.Core.Path.{◌≡◌, refl, ap, ◌∙◌}
-use mathlib.Core.Bool.{Bool, true, false}
-use mathlib.Core.List.{List, [], ◌∷◌, ◌++◌, map, map-append, append-nil, head-eq_of_cons-eq, tail-eq_of_cons-eq}
-use Prim.Native.Nat.{ℕ, suc, ◌/◌, ◌≤◌}
-use native.Mathlib.Omega.{arith}
-use borrow.Author.Tests.{eq-eqb, le-ltb}
-use lib.ListN.{length, take, drop, length-append, take-append-drop}
-use lib.Seq.{take-append_seam, length-take-le}
+use Rattle.std.proofs.Common.{◌≡◌, refl, ap, ◌∙◌, Bool, true, false, List, [], ◌∷◌, ◌++◌, map, append-nil, ℕ, suc, ◌/◌, ◌≤◌, arith, eq-eqb, le-ltb, length, take, drop, length-append, take-append-drop, length-take-le}
+use mathlib.Core.List.{map-append, head-eq_of_cons-eq, tail-eq_of_cons-eq}
+use Rattle.std.proofs.Math.Seq.{take-append_seam}
 use Rattle.common.specs.Choice.{if, either}
 use Rattle.common.specs.Answers.{done}
 use Rattle.words.specs.Words.{kind_of, stops, has_stop}

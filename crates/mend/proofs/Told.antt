@@ -1,13 +1,6 @@
 -- Each change can be read from the report, and what a call promises.
-use mathlib.Core.Path.{◌≡◌, refl, ◌∙◌}
-use mathlib.Core.Bool.{Bool, true, false}
-use mathlib.Core.List.{List, [], ◌∷◌, ◌++◌}
-use Prim.Native.Nat.{ℕ, zero, suc, ◌+◌, ◌*◌, ◌/◌, ◌%◌, ◌<◌}
-use native.Mathlib.Nat.{le_of_suc-le-suc}
-use native.Mathlib.Omega.{arith}
-use borrow.Author.Tests.{lt-ltb}
-use lib.Dec.{eqb, leb-suc-suc}
-use lib.ListN.{length, take, drop, get_or}
+use Rattle.std.proofs.Common.{◌≡◌, refl, ◌∙◌, Bool, true, false, List, [], ◌∷◌, ◌++◌, ℕ, zero, suc, ◌+◌, ◌*◌, ◌/◌, ◌%◌, ◌<◌, le_of_suc-le-suc, arith, lt-ltb, eqb, length, take, drop, get_or}
+use lib.Dec.{leb-suc-suc}
 use Rattle.common.specs.Choice.{if}
 use Rattle.common.specs.Answers.{done}
 use Rattle.words.specs.Words.{has_stop}

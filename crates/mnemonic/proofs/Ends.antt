@@ -1,11 +1,5 @@
 -- The only LF of a line is its last byte.
-use mathlib.Core.Path.{◌≡◌, refl, sym}
-use mathlib.Core.Bool.{Bool, true, false}
-use mathlib.Core.List.{List, [], ◌∷◌, ◌++◌}
-use Prim.Native.Nat.{ℕ, zero, suc, ◌/◌, ◌%◌}
-use native.Mathlib.Omega.{arith}
-use lib.Dec.{eqb}
-use borrow.Author.Tests.{ne_eqb}
+use Rattle.std.proofs.Common.{◌≡◌, refl, sym, Bool, true, false, List, [], ◌∷◌, ◌++◌, ℕ, zero, suc, ◌/◌, ◌%◌, arith, eqb, ne_eqb}
 use Rattle.common.specs.Choice.{if}
 use Rattle.words.specs.Words.{kind_of}
 use Rattle.digits.specs.Digits.{glyph, digits, digit_count, decimal}
