@@ -2,7 +2,7 @@
 use Rattle.std.proofs.Common.{◌≡◌, ◌∙◌, List, [], ◌∷◌, ◌++◌, append_assoc, ℕ, zero, suc, ◌/◌, ◌%◌, ◌^◌, ◌≤◌, ◌<◌, pow-suc, one-mul, mod-lt, mod-eq_of_lt, div-add-mod', div-lt_iff_lt-mul, arith, get_or, lt-ltb, le-ltb, le-leb}
 use Rattle.std.proofs.Math.Nat.{pow-zero}
 use Rattle.std.proofs.Math.Seq.{get_or_at}
-use borrow.Author.Tests.{lt-leb}
+use Rattle.std.proofs.lemmas.Bool.{lt-leb}
 use Rattle.common.proofs.Order.{either_side}
 use Rattle.digits.specs.Digits.{glyph, digits}
 use Rattle.digits.proofs.Digits.{length_digits}

@@ -1,5 +1,5 @@
 -- The first bad line is one: it ends with the first LF of the rest, or with the rest, and is no word's.
-use Rattle.std.proofs.Common.{◌≡◌, refl, ap, ◌∙◌, Bool, true, false, List, [], ◌∷◌, ◌++◌, append_assoc, ℕ, ◌<◌, arith, eqb, length, drop}
+use Rattle.std.proofs.Common.{◌≡◌, refl, ap, ◌∙◌, Bool, true, false, List, [], ◌∷◌, ◌++◌, append_assoc, ℕ, ◌<◌, eqb, length, drop}
 use Rattle.common.specs.Choice.{if}
 use Rattle.words.specs.Words.{kind_of}
 use Rattle.mnemonic.specs.Mnemonic.{lf, text_by, text_line}
@@ -29,7 +29,7 @@ first-unbroken (x ∷ l) more e = by-head (eqb x lf) e (first-unbroken l more)
     by-head :
         (t : Bool) → if t true (broken l) ≡ false → (broken l ≡ false → first_line (l ++ lf ∷ more) ≡ l ++ lf ∷ []) →
         if t (x ∷ []) (x ∷ first_line (l ++ lf ∷ more)) ≡ x ∷ (l ++ lf ∷ [])
-    by-head true f tail = absurd (let z : ◌≡◌ {A = ℕ} 0 1 = cc in omega arith)
+    by-head true f tail = cc
     by-head false f tail = ap (λ t. x ∷ t) (tail f)
 
 pub first-line-word : (w : ℕ) (more : List ℕ) → first_line (text_line w ++ more) ≡ text_line w

@@ -50,7 +50,7 @@ first text = by_word (ltb (guess_of text) 65536) refl
     by-line h false e =
         never (λ more g f.
         let t : begins (text_line (guess_of text)) text ≡ true = ap (begins (text_line (guess_of text))) f ∙ begins-with (text_line (guess_of text)) more in
-        let z : ◌≡◌ {A = ℕ} 0 1 = cc in omega arith)
+        cc)
 
     by_word : (t : Bool) → ltb (guess_of text) 65536 ≡ t → First text
     by_word true e = by-line (ltb-true (guess_of text) 65536 e) (begins (text_line (guess_of text)) text) refl

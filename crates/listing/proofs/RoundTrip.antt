@@ -16,7 +16,7 @@ room n limit e = leb-true n limit (by-test (leb n limit) e)
   where
     by-test : (t : Bool) → done ≡ if t done too_small → t ≡ true
     by-test true f = refl
-    by-test false f = absurd (let z : ◌≡◌ {A = ℕ} 0 8 = f in omega arith)
+    by-test false f = absurd (omega arith)
 
 -- words whose text fits are printed: the buffer begins with their text
 pub prints :
@@ -67,7 +67,7 @@ pub record Accepted (text before after : List ℕ) (count : ℕ) : Type 0 where
 
 form : (words rest : List ℕ) (limit : ℕ) → done ≡ read_answer words rest limit → (rest ≡ []) × (length words ≤ limit)
 form words [] limit e = (refl, room (length words) limit e)
-form words (x ∷ rest) limit e = absurd (let z : ◌≡◌ {A = ℕ} 0 7 = e in omega arith)
+form words (x ∷ rest) limit e = absurd (omega arith)
 
 pub accepted :
     {text before after : List ℕ} {answer count line : ℕ} → Reading text before after answer count line → answer ≡ done →

@@ -1,6 +1,6 @@
 -- Mending what is mended: nothing is left to do.
 use Rattle.std.proofs.Common.{◌≡◌, refl, ap, ◌∙◌, Bool, true, false, List, [], ◌∷◌, ◌++◌, map, append-nil, ℕ, suc, ◌/◌, ◌≤◌, arith, eq-eqb, le-ltb, length, take, drop, length-append, take-append-drop, length-take-le}
-use mathlib.Core.List.{map-append, head-eq_of_cons-eq, tail-eq_of_cons-eq}
+use Rattle.std.proofs.lemmas.List.{map-append}
 use Rattle.std.proofs.Math.Seq.{take-append_seam}
 use Rattle.common.specs.Choice.{if, either}
 use Rattle.common.specs.Answers.{done}
@@ -16,7 +16,9 @@ no_changes : (p : ℕ) (ws : List ℕ) → map mended ws ≡ ws → changes_from
 unfolding changes_from
 no_changes p [] e = refl
 no_changes p (w ∷ ws) e =
-    changes-more p w ws ∙ rw (eq-eqb (mended w) w (head-eq_of_cons-eq e)) (no_changes (suc p) ws (tail-eq_of_cons-eq e))
+    let same : mended w ≡ w = cc in
+    let rest : map mended ws ≡ ws = cc in
+    changes-more p w ws ∙ rw (eq-eqb (mended w) w same) (no_changes (suc p) ws rest)
 
 -- where each word in use is its own mending and a STOP is among them
 module _

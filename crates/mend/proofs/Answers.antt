@@ -1,7 +1,7 @@
 -- What the passes say of the answer, and of what a call gives.
 use Rattle.std.proofs.Common.{◌≡◌, ℕ, ◌+◌, ◌-◌, ◌*◌, ◌/◌, ◌<◌, ◌≤◌, Bool, true, false, List, [], ◌∷◌, ◌++◌, length, take, drop, get_or, set, map, refl, sym, ◌∙◌, arith, append_assoc, length-append, zero-add, lt-ltb, le-ltb, eq-eqb, ne_eqb, eqb, ltb, not}
 use Rattle.std.proofs.lemmas.List.{append-nil, length-map, length-take-le, drop_more, get_or_at, set_at}
-use borrow.Author.Tests.{not-true, not-false}
+use Rattle.std.proofs.lemmas.Bool.{not-true, not-false}
 use Rattle.std.proofs.Math.Seq.{sets, sets-eq}
 use mir.Val.{bool_byte}
 use Rattle.common.specs.Choice.{if, both}

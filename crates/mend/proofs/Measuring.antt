@@ -1,7 +1,7 @@
 -- Words one by one: their changes, and whether a STOP stands among them.
 use Rattle.std.proofs.Common.{◌≡◌, ℕ, suc, ◌+◌, ◌<◌, ◌≤◌, Bool, true, false, ◌||◌, List, [], ◌∷◌, ◌++◌, length, take, drop, get_or, refl, sym, ap, ◌∙◌, arith, append_assoc, length-append, add-zero, take-append-drop, not, eqb}
 use Rattle.std.proofs.lemmas.List.{append-nil, length-take, length-take-le, take_more}
-use mathlib.Core.Bool.{or_assoc, or-false}
+use Rattle.std.proofs.Math.Bool.{or_assoc, or-false}
 use mir.Val.{bool_byte}
 use Rattle.common.specs.Choice.{if}
 use Rattle.words.specs.Words.{stops, has_stop}

@@ -1,6 +1,6 @@
 -- Each change can be read from the report, and what a call promises.
 use Rattle.std.proofs.Common.{◌≡◌, refl, ◌∙◌, Bool, true, false, List, [], ◌∷◌, ◌++◌, ℕ, zero, suc, ◌+◌, ◌*◌, ◌/◌, ◌%◌, ◌<◌, le_of_suc-le-suc, arith, lt-ltb, eqb, length, take, drop, get_or}
-use lib.Dec.{leb-suc-suc}
+use Rattle.std.proofs.Math.Dec.{leb-suc-suc}
 use Rattle.common.specs.Choice.{if}
 use Rattle.common.specs.Answers.{done}
 use Rattle.words.specs.Words.{has_stop}

@@ -2,7 +2,7 @@
 use Rattle.std.proofs.Common.{◌≡◌, refl, ap, ◌∙◌, Bool, true, false, ℕ, ◌+◌, ◌*◌, ◌/◌, ◌%◌, ◌^◌, ◌<◌, ◌≤◌, arith, eqb, eqb-true}
 use Rattle.std.specs.Int.Bits.{bit_and, and_zero_r}
 use Rattle.std.proofs.lemmas.Nat.{and_block, and_mask}
-use borrow.Author.Tests.{eqb-false}
+use Rattle.std.proofs.lemmas.Bool.{eqb-false}
 use Rattle.common.specs.Choice.{if, both, of_bool}
 use Rattle.words.specs.Words.{kind_of, low12, loop_bit, int_bit, stop_bit, is_repeat, is_control, repeats, loops, stops}
 use Rattle.words.specs.declared.WordKind.{WordKind}
