@@ -1,3 +1,3 @@
--- Laws of an order served, of an area that is given, and of a list that is copied out of RAM and placed.
-pub mod Serving
+-- Laws of a list that is copied out of RAM, and of a line that is shown.
 pub mod Placing
+pub mod Shown

@@ -23,10 +23,10 @@ pub record Running : Type 0 where
   pub world : World
   pub waiting : List ℕ
 
--- that of a machine beside RAM, the pixel store, the places of the song and of the picture editor's record, and those of placed lists
-abbrev pub running_of : Machine → List ℕ → List ℕ → List ℕ → List ℕ → List ℕ → Running
-running_of m ram store song picture slots =
-    record { world = world_of m.chip ram store song picture slots; waiting = m.waiting }
+-- that of a machine
+abbrev pub running_of : Machine → Running
+running_of m =
+    record { world = world_of m.chip m.ram.now m.store.now m.song.now m.picture.now m.slots.now; waiting = m.waiting }
 
 -- at first, and after a reset
 abbrev pub none_waiting : List ℕ
@@ -156,3 +156,20 @@ pub record Does (s : Running) (a : Act) (s' : Running) (before : List ℕ) (at :
   pub state : s' ≡ state_by s a
   pub puts : Appends before at (line_by s a) after at'
   pub bound : at' ≤ at + 1024
+
+-- a machine that lends the same buffers as before, RAM, the pixel store and the output as long as they were
+pub record SameBuffers (m m' : Machine) : Type 0 where
+  pub ram : m'.ram.ghost_name ≡ m.ram.ghost_name
+  pub store : m'.store.ghost_name ≡ m.store.ghost_name
+  pub song : m'.song.ghost_name ≡ m.song.ghost_name
+  pub picture : m'.picture.ghost_name ≡ m.picture.ghost_name
+  pub slots : m'.slots.ghost_name ≡ m.slots.ghost_name
+  pub out : m'.out.bytes.ghost_name ≡ m.out.bytes.ghost_name
+  pub ram_size : length m'.ram.now ≡ length m.ram.now
+  pub store_size : length m'.store.now ≡ length m.store.now
+  pub out_size : length m'.out.bytes.now ≡ length m.out.bytes.now
+
+-- a machine does this
+pub record Performs (m : Machine) (a : Act) (m' : Machine) : Type 0 where
+  pub does : Does (running_of m) a (running_of m') m.out.bytes.now m.out.at m'.out.bytes.now m'.out.at
+  pub lent : SameBuffers m m'

@@ -5,3 +5,4 @@ pub mod Order
 pub mod Tests
 pub mod Begins
 pub mod Words
+pub mod Chunks

@@ -1,7 +1,8 @@
 -- The answer's three cases, and the promise in each.
-use mathlib.Core.Path.{◌≡◌, sym, ◌∙◌}
+use mathlib.Core.Path.{◌≡◌, sym}
 use mathlib.Core.Bool.{true, false}
 use mathlib.Core.List.{List}
+use Rattle.std.specs.Prelude.{Ok}
 use Prim.Native.Nat.{ℕ, suc}
 use native.Mathlib.Omega.{arith}
 use lib.Dec.{eqb-suc-zero}
@@ -10,7 +11,7 @@ use borrow.Author.Tests.{eq-eqb, ne_eqb}
 use Rattle.forecast.specs.declared.Length.{Length}
 use Rattle.words.specs.Words.{has_stop}
 use Rattle.forecast.specs.Rule.{words_of, even, lines_forecast, cycles_forecast, most_forecast, answer_of}
-use Rattle.forecast.specs.Contract.{Forecasts}
+use Rattle.forecast.specs.Contract.{told, Forecasts}
 use Rattle.forecast.proofs.Demands.{demanded}
 
 module _ (ram : List ℕ) (start : ℕ) where
@@ -27,28 +28,27 @@ module _ (ram : List ℕ) (start : ℕ) where
   unfolding answer_of
   answer-served h s = simp (eq-eqb (length ram) 65536 h, s)
 
-  module _ (prescale : ℕ) (r : Length) where
+  module _ (prescale : ℕ) where
     -- a refusal has its number, and 0 beside it
     pub forecast-refused :
-        (n : ℕ) → answer_of ram start ≡ suc n → (r.answer ≡ suc n) × (r.lines ≡ 0) × (r.cycles ≡ 0) × (r.most ≡ 0) →
-        Forecasts ram start prescale r
-    forecast-refused n e h =
+        (n : ℕ) → answer_of ram start ≡ suc n → Forecasts ram start prescale (record { answer = suc n; lines = 0; cycles = 0; most = 0 })
+    forecast-refused n e =
         record {
-          answer = h.0 ∙ sym e;
-          lines = simp (e, eqb-suc-zero n, h.1);
-          cycles = simp (e, eqb-suc-zero n, h.2);
-          most = simp (e, eqb-suc-zero n, h.3);
-          demand = λ z. absurd (omega (arith, h.0));
+          answer = sym e;
+          lines = simp (e, eqb-suc-zero n);
+          cycles = simp (e, eqb-suc-zero n);
+          most = simp (e, eqb-suc-zero n);
+          demand = λ z. absurd (omega arith);
         }
 
     -- a list has the lines, the least and the most cycles of the rule
     pub forecast-served :
-        length ram ≡ 65536 → has_stop (words_of ram (even start)) ≡ true → r.answer ≡ 0 → r.lines ≡ lines_forecast ram start prescale →
-        r.cycles ≡ cycles_forecast ram start → r.most ≡ most_forecast ram start → Forecasts ram start prescale r
-    forecast-served h s a l t m =
+        (r : Length) → length ram ≡ 65536 → has_stop (words_of ram (even start)) ≡ true → r.lines ≡ lines_forecast ram start prescale →
+        r.cycles ≡ cycles_forecast ram start → r.most ≡ most_forecast ram start → Forecasts ram start prescale (told (Ok r))
+    forecast-served r h s l t m =
         let e = answer-served h s in
         record {
-          answer = a ∙ sym e;
+          answer = sym e;
           lines = simp (e, l);
           cycles = simp (e, t);
           most = simp (e, m);

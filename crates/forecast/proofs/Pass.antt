@@ -21,7 +21,7 @@ use Rattle.words.specs.Words.{is_pause, is_repeat, is_control, repeats, loops, s
 use Rattle.forecast.specs.Rule.{lines_of, cycles_of}
 use Rattle.forecast.specs.Rule.{words_of, closes, open_count, total}
 use Rattle.forecast.specs.Left.{ahead}
-use Rattle.forecast.specs.Pass.{added, passed, Room, Open}
+use Rattle.forecast.specs.Pass.{added, passed}
 use Rattle.forecast.proofs.Ahead.{ahead-stop, ahead-plain, ahead-repeat, ahead-loop}
 use Rattle.forecast.proofs.Words.{words-stop, words_more}
 use Rattle.forecast.proofs.Walk.{Walked, walked_none, walked_more}
@@ -56,6 +56,9 @@ cycles-small a w =
     let q : 2 ≤ 2 ^ 20 = omega arith in
     if-le (is_load (kind_of w)) _ _ _ p q
 
+-- the costs that one pass of a word can have
+pub ruleset small = (lines-small, cycles-small)
+
 -- a count stays one of 12 bits
 open_small : (k w : ℕ) → k < 4096 → open_count k w < 4096
 unfolding open_count
@@ -86,18 +89,14 @@ module _ (cost : ℕ → ℕ) (ram : List ℕ) (first : ℕ) where
     pub bounded : s.total ≤ a * 2 ^ 46
 
   -- before the first word
-  pub summed_none : Summed first 0 (record { total = 0; since = 0 })
+  pub summed_none : (k : ℕ) (s : Sums) → k ≡ 0 → (s.total ≡ 0) × (s.since ≡ 0) → Summed first k s
   unfolding ahead
-  summed_none = record { paid = by_closing (closes (words_of ram first)); small = omega arith; bounded = omega arith }
+  summed_none k s z h = rw z (record { paid = rw (h.0, h.1) (by_closing (closes (words_of ram first))); small = omega arith; bounded = omega arith })
     where
       by_closing :
           (b : Bool) → 0 + (total cost 0 (words_of ram first) + if b (0 * 0) 0) ≡ total cost 0 (words_of ram first)
       by_closing true = omega arith
       by_closing false = omega arith
-
-  -- one more word fits
-  pub summed_room : (a k : ℕ) (s : Sums) → Summed a k s → a + 2 ≤ 65536 → Room s
-  summed_room a k s i h = record { since = omega arith; total = omega arith }
 
   module _ (a k : ℕ) (s : Sums) (i : Summed a k s) (inside : a + 2 ≤ 65536) where
     -- the word there, and those after it
@@ -162,33 +161,25 @@ pub record Scanned (ram : List ℕ) (prescale first a : ℕ) (s : Scan) : Type 0
   pub most : Summed (cycles_of PsgWrite) ram first a s.count s.most
   pub count : s.count < 4096
 
--- the sums before the first word
-abbrev none : Sums
-none = record { total = 0; since = 0 }
+-- sums of nothing
+abbrev NoneSummed : Sums → Type 0
+NoneSummed s = (s.total ≡ 0) × (s.since ≡ 0)
 
 module _ (ram : List ℕ) (prescale first : ℕ) where
+  -- before the first word
   pub scanned_none :
-      first ≤ 65536 → Scanned ram prescale first first (record { lines = none; cycles = none; most = none; count = 0 })
-  scanned_none h =
+      (s : Scan) → first ≤ 65536 →
+      NoneSummed s.lines × (NoneSummed s.cycles × (NoneSummed s.most × (s.count ≡ 0))) → Scanned ram prescale first first s
+  scanned_none s h n =
       record {
         walked = walked_none ram first h;
-        lines = summed_none (lines_of prescale) ram first;
-        cycles = summed_none (cycles_of Off) ram first;
-        most = summed_none (cycles_of PsgWrite) ram first;
-        count = omega arith;
+        lines = summed_none (lines_of prescale) ram first s.count s.lines n.1.1.1 n.0;
+        cycles = summed_none (cycles_of Off) ram first s.count s.cycles n.1.1.1 n.1.0;
+        most = summed_none (cycles_of PsgWrite) ram first s.count s.most n.1.1.1 n.1.1.0;
+        count = omega (arith, n.1.1.1);
       }
 
   module _ (a : ℕ) (s : Scan) (i : Scanned ram prescale first a s) (inside : a + 2 ≤ 65536) where
-    -- one more word fits
-    pub scanned_open : Open s
-    scanned_open =
-        record {
-          lines = summed_room (lines_of prescale) ram first a s.count s.lines i.lines inside;
-          cycles = summed_room (cycles_of Off) ram first a s.count s.cycles i.cycles inside;
-          most = summed_room (cycles_of PsgWrite) ram first a s.count s.most i.most inside;
-          count = omega arith;
-        }
-
     -- at the STOP the sums are whole
     pub scanned_stop :
         stops (word_at ram a) ≡ true →

@@ -2,14 +2,14 @@
 use mathlib.Core.Path.{◌≡◌, refl, sym, ◌∙◌}
 use mathlib.Core.Bool.{Bool, true, false}
 use mathlib.Core.List.{List, [], ◌∷◌}
-use Prim.Native.Nat.{ℕ, zero, suc, ◌+◌, ◌-◌, ◌*◌, ◌/◌, ◌≤◌}
+use Prim.Native.Nat.{ℕ, zero, suc, ◌+◌, ◌-◌, ◌*◌, ◌/◌, ◌<◌, ◌≤◌}
+use native.Mathlib.Nat.{add-zero}
 use native.Mathlib.Omega.{arith}
 use lib.ListN.{length}
 use Rattle.sound.specs.Channels.{word_at}
 use Rattle.words.specs.Words.{stops, has_stop}
 use Rattle.forecast.specs.Rule.{words_from, words_of}
-use Rattle.forecast.specs.Pass.{bytes_from}
-use Rattle.forecast.proofs.Words.{some_word, words_end, words-stop, words_more}
+use Rattle.forecast.proofs.Words.{words_end, words-stop, words_more}
 
 -- a walk from one address on over words that are no STOP: the list ends where it did, at a STOP or at none
 pub record Walked (ram : List ℕ) (first a : ℕ) : Type 0 where
@@ -48,6 +48,15 @@ module _ (ram : List ℕ) (first : ℕ) where
     unfolding has_stop
     walked_end h = sym i.stop ∙ simp (words_end ram a h)
 
+  -- past so many words that are no STOP
+  pub walked_past :
+      first ≤ 65536 → (i : ℕ) → first + i * 2 ≤ 65536 → ((k : ℕ) → k < i → stops (word_at ram (first + k * 2)) ≡ false) →
+      Walked ram first (first + i * 2)
+  walked_past r zero h f = rw add-zero (walked_none r)
+  walked_past r (suc i) h f =
+      let e : first + suc i * 2 ≡ first + i * 2 + 2 = omega arith in
+      rw e (walked_more (first + i * 2) (walked_past r i (omega arith) (λ k l. f k (omega arith))) (omega arith) (f i (omega arith)))
+
 -- the words end at FFFEh
 words-length : (ram : List ℕ) (n a : ℕ) → length (words_from ram n a) ≤ n
 unfolding words_from
@@ -63,20 +72,3 @@ words-length ram (suc n) a = by-stop (stops (word_at ram a)) (words-length ram n
 pub words_inside : (ram : List ℕ) (a : ℕ) → a ≤ 65536 → a + length (words_of ram a) * 2 ≤ 65536
 unfolding words_of
 words_inside ram a h = omega (arith, words-length ram ((65536 - a) / 2) a)
-
--- bytes are counted where a STOP stands
-pub bytes-none : (ram : List ℕ) (a : ℕ) → bytes_from ram a ≡ 0 → has_stop (words_of ram a) ≡ false
-unfolding bytes_from
-bytes-none ram a h = by-stop (has_stop (words_of ram a)) refl
-  where
-    by-stop : (b : Bool) → has_stop (words_of ram a) ≡ b → has_stop (words_of ram a) ≡ false
-    by-stop true e = absurd (omega (arith, some_word (words_of ram a) e, simp e at h))
-    by-stop false e = e
-
-pub bytes-some : (ram : List ℕ) (a : ℕ) → (bytes_from ram a ≡ 0 → ⊥) → has_stop (words_of ram a) ≡ true
-unfolding bytes_from
-bytes-some ram a h = by-stop (has_stop (words_of ram a)) refl
-  where
-    by-stop : (b : Bool) → has_stop (words_of ram a) ≡ b → has_stop (words_of ram a) ≡ true
-    by-stop true e = e
-    by-stop false e = absurd (h (simp e))

@@ -2,9 +2,12 @@
 use mathlib.Core.Path.{◌≡◌, refl, ap}
 use mathlib.Core.Bool.{Bool, true, false}
 use mathlib.Core.List.{List, [], ◌∷◌}
-use Prim.Native.Nat.{ℕ, zero, suc, ◌+◌, ◌-◌, ◌*◌, ◌/◌, ◌<◌, ◌≤◌}
+use Prim.Native.Nat.{ℕ, zero, suc, ◌+◌, ◌-◌, ◌*◌, ◌/◌, ◌%◌, ◌<◌, ◌≤◌}
 use native.Mathlib.Omega.{arith}
-use lib.ListN.{length}
+use lib.ListN.{length, get_or, drop}
+use Rattle.std.proofs.lemmas.List.{get_or-take, get_or-drop}
+use Rattle.std.specs.Simd.{first_chunks}
+use Rattle.common.proofs.Chunks.{chunk-at}
 use Rattle.sound.specs.Channels.{word_at}
 use Rattle.words.specs.Words.{stops, has_stop}
 use Rattle.forecast.specs.Rule.{words_from, words_of}
@@ -16,6 +19,19 @@ some_word [] h = let z : ◌≡◌ {A = ℕ} 0 1 = cc in omega arith
 some_word (w ∷ ws) h = omega arith
 
 module _ (ram : List ℕ) where
+  -- the pairs of bytes that the code takes RAM as, from an address on, are its words, low byte first
+  pub pair-word :
+      (a n i w : ℕ) → (pair bytes : List ℕ) → bytes ≡ drop a ram → i < n → a + n * 2 ≤ 65536 → pair ≡ get_or (first_chunks 2 n bytes) i [] →
+      w ≡ get_or pair 0 0 + get_or pair 1 0 * 256 → w ≡ word_at ram (a + i * 2)
+  unfolding word_at
+  pair-word a n i w pair bytes b l h p e =
+      let m : (a + i * 2 + 1) % 65536 ≡ a + i * 2 + 1 = omega arith in
+      let first : 0 < 2 = omega arith in
+      let second : 1 < 2 = omega arith in
+      let none : a + (i * 2 + 0) ≡ a + i * 2 = omega arith in
+      let one : a + (i * 2 + 1) ≡ a + i * 2 + 1 = omega arith in
+      rw (e, p, b, chunk-at 2 n (drop a ram) i l, m) (simp (get_or-take, get_or-drop, none, one) (omega arith))
+
   -- at least two bytes are left where a STOP stands ahead
   pub room : (a : ℕ) → has_stop (words_of ram a) ≡ true → a + 2 ≤ 65536
   unfolding words_of words_from has_stop

@@ -1,12 +1,12 @@
 -- Serves only the code's walks over the words, in the contracts of private functions. No public promise cites it: what a
 -- list costs and where it ends is said by Rule alone.
-use Rattle.std.specs.Prelude.{List, ℕ, ◌+◌, ◌*◌, ◌^◌, ◌≤◌, length}
+use Rattle.std.specs.Prelude.{ℕ, ◌+◌, ◌*◌, ◌^◌, ◌≤◌}
 use Rattle.common.specs.Choice.{if}
 use Rattle.sound.specs.declared.Access.TheVariants.{Off, PsgWrite}
 use Rattle.forecast.specs.declared.Scan.{Scan}
 use Rattle.forecast.specs.declared.Sums.{Sums}
-use Rattle.words.specs.Words.{repeats, loops, stops, has_stop}
-use Rattle.forecast.specs.Rule.{lines_of, cycles_of, words_of, open_count}
+use Rattle.words.specs.Words.{repeats, loops, stops}
+use Rattle.forecast.specs.Rule.{lines_of, cycles_of, open_count}
 
 -- the sums with one more word of this cost, where the open count is k
 unfoldable pub added : ℕ → ℕ → ℕ → Sums → Sums
@@ -37,7 +37,3 @@ pub record Open (s : Scan) : Type 0 where
   pub cycles : Room s.cycles
   pub most : Room s.most
   pub count : s.count ≤ 4095
-
--- the bytes of the list from an address through its STOP, 0 where none stands
-unfoldable pub bytes_from : List ℕ → ℕ → ℕ
-bytes_from ram a = if (has_stop (words_of ram a)) (length (words_of ram a) * 2) 0

@@ -2,30 +2,31 @@
 
 #![tactic(auto)]
 
-use common::answer::DONE;
+ghost use Rattle.std.specs.Prelude.{Some};
+ghost use Rattle.length_line.specs.Line.{line_of};
 
-// The descriptor of standard output.
-const STDOUT_FILENO: i32 = 1;
+use std::fmt;
 
-// An answer number, and where it is 0 lines and cycles.
+// The lines of a list, and its channel's own cycles.
 #[derive(Clone, Copy)]
 pub struct Length {
-    pub answer: u8,
     pub lines: u64,
     pub cycles: u64,
 }
 
-// Prints `lines N cycles N`, or `refused N` with the number of the refusal.
-pub fn print(told: Length) {
-    if told.answer != DONE {
-        io::write_all(STDOUT_FILENO, b"refused ");
-        io::print_decimal(STDOUT_FILENO, told.answer as u64);
-        io::write_all(STDOUT_FILENO, b"\n");
-        return;
+// That line without its end, of a list's length or of the number with which it is refused. A number and no `Refusal`, since the calls
+// that answer in C structs have only that.
+#[derive(Clone, Copy)]
+pub struct Line(pub Result<Length, u8>);
+
+impl fmt::Display for Line {
+    ghost output = { λ line. Some (line_of line.0) };
+
+    // `lines N cycles N`, or `refused N`.
+    fn fmt<W: fmt::Write>(&self, f: &mut fmt::Formatter<W>) -> fmt::Result {
+        match self.0 {
+            Ok(Length { lines, cycles }) => write!(f, "lines {lines} cycles {cycles}"),
+            Err(number) => write!(f, "refused {number}"),
+        }
     }
-    io::write_all(STDOUT_FILENO, b"lines ");
-    io::print_decimal(STDOUT_FILENO, told.lines);
-    io::write_all(STDOUT_FILENO, b" cycles ");
-    io::print_decimal(STDOUT_FILENO, told.cycles);
-    io::write_all(STDOUT_FILENO, b"\n");
 }

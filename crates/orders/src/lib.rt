@@ -3,7 +3,7 @@
 #![tactic(auto)]
 
 ghost use Rattle.std.specs.Prelude.{◌≡◌, ◌+◌, ◌≤◌, length};
-ghost use Rattle.calls.specs.Orders.{running_of};
+ghost use Rattle.calls.specs.Orders.{running_of, SameBuffers};
 ghost use Rattle.orders.specs.Letters.{Serves};
 
 use calls::Machine;
@@ -18,46 +18,38 @@ pub struct Order {
 }
 
 // What an order asks for.
-pub fn serve(
-    m: Machine,
-    ram: &mut [u8],
-    store: &mut [u8],
-    song: &mut [u32; 256],
-    picture: &mut [u32; 256],
-    slots: &mut [u32; 64],
-    out: &mut [u8],
-    o: Order,
-) -> Machine
-    requires { (m.at + 1024 ≤ length out.old) × (length ram.old ≡ 65536) }
-    ensures { Serves (running_of m ram.old store.old song.old picture.old slots.old) o (running_of result ram.new store.new song.new picture.new slots.new) out.old m.at out.new result.at }
+pub fn serve(m: &mut Machine<'_>, o: Order)
+    requires { (m.old.out.at + 1024 ≤ length m.old.out.bytes.now) × (length m.old.ram.now ≡ 65536) }
+    ensures serves { Serves (running_of m.old) o (running_of m.new) m.old.out.bytes.now m.old.out.at m.new.out.bytes.now m.new.out.at }
+    ensures lent { SameBuffers m.old m.new }
 {
-    let op = o.op;
-    let address = o.address;
-    let value = o.value;
+    let Order { op, address, value } = o;
+
+    // numbers and no enum: they are the letters that a scene has
     match op {
-        b'B' => calls::selected(m, out, value),
-        b'D' => calls::data_written(m, out, value),
-        b'G' => calls::gate_written(m, out, value),
-        b'W' => calls::page_written(m, Editor::Song, store, song, out, address, value),
-        b'w' => calls::page_written(m, Editor::Picture, store, picture, out, address, value),
-        b'R' => calls::page_shown(m, Editor::Song, store, out, address, value),
-        b'r' => calls::page_shown(m, Editor::Picture, store, out, address, value),
-        b'U' => calls::undone(m, Editor::Song, store, song, out),
-        b'u' => calls::undone(m, Editor::Picture, store, picture, out),
-        b'E' => calls::exported(m, out),
-        b'A' => calls::acknowledged(m, out),
-        b'L' => calls::stepped(m, ram, store, out, value),
-        b'P' => calls::painted(m, ram, store, out, value),
-        b'F' => calls::foretold(m, ram, out, address, value),
-        b'M' => calls::poked(m, ram, out, address, value),
-        b'T' => calls::kept_waiting(m, out, address, value),
-        b'S' => calls::started(m, out),
-        b'N' => calls::area_given(m, out),
-        b'K' => calls::list_placed(m, ram, slots, out, address, value),
-        b'X' => calls::list_removed(m, slots, out, value),
-        b'Q' => calls::muted(m, out, address, value),
-        b'H' => calls::psg_shown(m, out),
-        b'Z' => calls::reset(m, out),
-        _ => calls::not_known(m, out),
+        b'B' => m.selected(value),
+        b'D' => m.data_written(value),
+        b'G' => m.gate_written(value),
+        b'W' => m.page_written(Editor::Song, address, value),
+        b'w' => m.page_written(Editor::Picture, address, value),
+        b'R' => m.page_shown(Editor::Song, address, value),
+        b'r' => m.page_shown(Editor::Picture, address, value),
+        b'U' => m.undone(Editor::Song),
+        b'u' => m.undone(Editor::Picture),
+        b'E' => m.exported(),
+        b'A' => m.acknowledged(),
+        b'L' => m.stepped(value),
+        b'P' => m.painted(value),
+        b'F' => m.foretold(address, value),
+        b'M' => m.poked(address, value),
+        b'T' => m.kept_waiting(address, value),
+        b'S' => m.started(),
+        b'N' => m.area_given(),
+        b'K' => m.list_placed(address, value),
+        b'X' => m.list_removed(value),
+        b'Q' => m.muted(address, value),
+        b'H' => m.psg_shown(),
+        b'Z' => m.reset(),
+        _ => m.not_known(),
     }
 }

@@ -8,8 +8,7 @@ use Rattle.common.specs.Answers.{served}
 use Rattle.chip.specs.Step.{stepped, idle_report}
 use Rattle.draw.specs.Drawing.{Draws}
 use Rattle.line.specs.Contract.{line_answer}
-use Rattle.forecast.specs.declared.Length.{Length}
-use Rattle.forecast.specs.Contract.{Forecasts}
+use Rattle.forecast.specs.Contract.{Answer, Forecasts}
 use Rattle.forecast.specs.Rule.{even, answer_of, list_of}
 use Rattle.plus.specs.declared.PlusStepped.{PlusStepped}
 use Rattle.plus.specs.declared.PlusLength.{PlusLength}
@@ -30,7 +29,7 @@ pub record LineTold (c : Chip) (ram store : List ℕ) (a : Accesses) (line line'
   pub bound : r.cycles ≤ 34
 
 -- the part of the answer that forecast's own promise is about
-abbrev pub told_by : PlusLength → Length
+abbrev pub told_by : PlusLength → Answer
 told_by r = record { answer = r.answer; lines = r.lines; cycles = r.cycles; most = r.most }
 
 -- the forecast: its own promise, demand 3 with it; and the list as a part of RAM, from the even start, as long as the list is,

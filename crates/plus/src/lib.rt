@@ -252,25 +252,23 @@ pub fn plus_line(
 pub fn plus_forecast(ram: &[u8], start: u16, prescale: u8) -> PlusLength
     ensures { LengthTold ram.now start prescale result }
 {
-    let told = forecast::forecast(ram, start, prescale);
-    if told.answer != DONE {
-        return PlusLength {
-            answer: told.answer,
+    match forecast::forecast(ram, start, prescale) {
+        Ok(told) => PlusLength {
+            answer: DONE,
             lines: told.lines,
             cycles: told.cycles,
             most: told.most,
+            offset: start as u32 / 2 * 2,
+            length: forecast::list(ram, start).len() as u32,
+        },
+        Err(refusal) => PlusLength {
+            answer: refusal.number(),
+            lines: 0,
+            cycles: 0,
+            most: 0,
             offset: 0,
             length: 0,
-        };
-    }
-    let list = forecast::list(ram, start);
-    PlusLength {
-        answer: told.answer,
-        lines: told.lines,
-        cycles: told.cycles,
-        most: told.most,
-        offset: start as u32 / 2 * 2,
-        length: list.len() as u32,
+        },
     }
 }
 

@@ -3,9 +3,9 @@ use Rattle.std.specs.Prelude.{◌≡◌, List, ℕ, zero, suc, ◌+◌, ◌-◌,
 use Rattle.common.specs.Choice.{if}
 use Rattle.calls.specs.declared.Machine.{Machine}
 use Rattle.orders.specs.declared.Order.{Order}
-use Rattle.text.specs.Text.{Appends}
+use Rattle.text.specs.Text.{Prints}
 use Rattle.text.specs.Lines.{short_line}
-use Rattle.calls.specs.Orders.{Running, state_by}
+use Rattle.calls.specs.Orders.{Running, running_of, SameBuffers, state_by}
 use Rattle.orders.specs.Letters.{act_of}
 
 -- the address of the order at a place of a block, low byte first
@@ -18,33 +18,33 @@ pub record Takes (block : List ℕ) (i : ℕ) (o : Order) : Type 0 where
   pub place : o.address ≡ address_at block i
   pub byte : o.value ≡ get_or block (i + 3) 0
 
--- a machine whose output lies in its buffer, beside whole RAM
-pub record Ready (m : Machine) (ram out : List ℕ) : Type 0 where
-  pub within : m.at ≤ length out
-  pub buffer : length out ≡ 65536
-  pub memory : length ram ≡ 65536
+-- a machine whose output lies in its buffer, with whole RAM
+pub record Ready (m : Machine) : Type 0 where
+  pub within : m.out.at ≤ length m.out.bytes.now
+  pub buffer : length m.out.bytes.now ≡ 65536
+  pub memory : length m.ram.now ≡ 65536
 
--- a machine with room for a line in so long a buffer: where there is none, all that waits is written out first
+-- a machine with room for a line: where there is none, all that waits is written out first
 abbrev pub emptied : Machine → Machine
-emptied m = record { chip = m.chip; waiting = m.waiting; at = 0 }
+emptied m = record m { out = record m.out { at = 0 } }
 
-unfoldable pub roomy : Machine → ℕ → Machine
-roomy m size = if (leb m.at (size - 1024)) m (emptied m)
+unfoldable pub roomy : Machine → Machine
+roomy m = if (leb m.out.at (length m.out.bytes.now - 1024)) m (emptied m)
 
 -- what making room promises
-pub record Roomy (m : Machine) (out : List ℕ) (r : Machine) : Type 0 where
-  pub is : r ≡ roomy m (length out)
-  pub chip : r.chip ≡ m.chip
-  pub waiting : r.waiting ≡ m.waiting
-  pub room : r.at + 1024 ≤ length out
+pub record Roomy (m r : Machine) : Type 0 where
+  pub is : r ≡ roomy m
+  pub running : running_of r ≡ running_of m
+  pub lent : SameBuffers m r
+  pub room : r.out.at + 1024 ≤ length r.out.bytes.now
 
 -- the end of the input, after so many bytes of a block: a part of an order makes the last line
-pub record Ends (m : Machine) (before : List ℕ) (bytes : ℕ) (after : List ℕ) (r : Machine) : Type 0 where
-  pub chip : r.chip ≡ m.chip
-  pub waiting : r.waiting ≡ m.waiting
-  pub whole : bytes % 4 ≡ 0 → (r ≡ m) × (after ≡ before)
-  pub part : (bytes % 4 ≡ 0 → ⊥) → Appends before (roomy m (length before)).at short_line after r.at
-  pub within : r.at ≤ length after
+pub record Ends (m : Machine) (bytes : ℕ) (r : Machine) : Type 0 where
+  pub running : running_of r ≡ running_of m
+  pub lent : SameBuffers m r
+  pub whole : bytes % 4 ≡ 0 → r ≡ m
+  pub part : (bytes % 4 ≡ 0 → ⊥) → Prints (roomy m).out short_line r.out
+  pub within : r.out.at ≤ length r.out.bytes.now
 
 -- the state after the order at a place of a block
 unfoldable pub order_served : Running → List ℕ → ℕ → Running

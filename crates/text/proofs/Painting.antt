@@ -2,27 +2,21 @@
 use mathlib.Core.Path.{◌≡◌, refl}
 use mathlib.Core.Bool.{Bool, true, false}
 use mathlib.Core.List.{List, [], ◌∷◌, ◌++◌, append_assoc, append-nil}
-use Prim.Native.Nat.{ℕ, zero, suc, ◌+◌, ◌<◌}
-use native.Mathlib.Nat.{add-zero}
+use Prim.Native.Nat.{ℕ, zero, suc, ◌+◌, ◌*◌, ◌/◌, ◌%◌, ◌<◌}
 use native.Mathlib.Numerals.{add-one}
 use native.Mathlib.Omega.{arith}
 use borrow.Author.Tests.{eqb-true, eq-eqb, ne_eqb}
 use lib.Dec.{eqb}
-use lib.ListN.{length, take, set, length-append}
-use lib.Seq.{take-suc-set}
+use lib.ListN.{get_or}
 use Rattle.common.specs.Answers.{done}
 use Rattle.common.specs.Choice.{if}
 use Rattle.common.specs.Sizes.{line_bytes}
 use Rattle.sound.specs.declared.Report.{Report}
-use Rattle.text.specs.Text.{numeral, line_end, Appends}
+use Rattle.text.specs.declared.Output.{Output}
+use Rattle.text.specs.Text.{numeral, line_end, Prints}
 use Rattle.text.specs.Lines.{report_text}
 use Rattle.text.specs.Paint.{character, characters, painted_line}
-
--- there are as many characters as positions
-pub characters-length : (f : ℕ → ℕ) (n : ℕ) → length (characters f n) ≡ n
-unfolding characters
-characters-length f zero = refl
-characters-length f (suc n) = simp (length-append, characters-length f n) (omega arith)
+use Rattle.text.specs.Dump.{digit_at}
 
 -- entries that agree look the same
 pub characters-same : (f g : ℕ → ℕ) (n : ℕ) → ((x : ℕ) → x < n → f x ≡ g x) → characters f n ≡ characters g n
@@ -31,46 +25,36 @@ characters-same f g zero h = refl
 characters-same f g (suc n) h =
     rw (characters-same f g n (λ x l. h x (omega arith)), h n (omega arith))
 
--- none of them is put
-pub entries_none : (f : ℕ → ℕ) (before : List ℕ) (at : ℕ) → take (at + 0) before ≡ take at before ++ characters f 0
+-- one more of them
+pub one-more : (f : ℕ → ℕ) (n : ℕ) → characters f (n + 1) ≡ characters f n ++ character (f n) ∷ []
 unfolding characters
-entries_none f before at = simp (add-zero, append-nil)
+one-more f n = rw add-one
 
--- one more is put
-pub entries-more :
-    (f : ℕ → ℕ) (before out : List ℕ) (at i v : ℕ) →
-    at + i < length out →
-    v ≡ character (f i) →
-    take (at + i) out ≡ take at before ++ characters f i →
-    take (at + (i + 1)) (set out (at + i) v) ≡ take at before ++ characters f (i + 1)
-unfolding characters
-entries-more f before out at i v h w e =
-    let s : at + (i + 1) ≡ suc (at + i) = omega arith in
-    rw (s, take-suc-set, e, w, add-one, append_assoc)
+-- the digits of one more byte
+pub two-more :
+    (bytes : List ℕ) (i : ℕ) →
+    characters (digit_at bytes) (2 * (i + 1)) ≡
+    characters (digit_at bytes) (2 * i) ++ character (get_or bytes i 0 / 16) ∷ character (get_or bytes i 0 % 16) ∷ []
+two-more bytes i =
+    let e : 2 * (i + 1) ≡ 2 * i + 1 + 1 = omega arith in
+    let even : 2 * i % 2 ≡ 0 = omega arith in
+    let odd : (2 * i + 1) % 2 ≡ 1 = omega arith in
+    let first : 2 * i / 2 ≡ i = omega arith in
+    let second : (2 * i + 1) / 2 ≡ i = omega arith in
+    rw (e, one-more, one-more) (simp (even, odd, first, second, append_assoc))
 
--- all of them are put
-pub entries-all :
-    (f : ℕ → ℕ) (before out : List ℕ) (at n i : ℕ) →
-    i ≡ n →
-    take (at + i) out ≡ take at before ++ characters f i →
-    Appends before at (characters f n) out (at + i)
-entries-all f before out at n i e h =
-    let whole : characters f i ≡ characters f n = rw e in
-    record { place = simp (characters-length, e); shown = rw whole at h }
-
-module _ (answer : ℕ) (entry : ℕ → ℕ) (report : Report) {out out' : List ℕ} {at next : ℕ} where
+module _ (answer : ℕ) (entry : ℕ → ℕ) (report : Report) {o p : Output} where
   -- a refusal is only its number
-  pub refused-line :
-      (answer ≡ done → ⊥) → Appends out at (numeral answer ++ line_end) out' next → Appends out at (painted_line answer entry report) out' next
+  pub refused-line : (answer ≡ done → ⊥) → Prints o (numeral answer ++ line_end) p → Prints o (painted_line answer entry report) p
   unfolding painted_line
-  refused-line h p = simp (ne_eqb answer done h, append-nil) p
+  refused-line h q = simp (ne_eqb answer done h, append-nil) q
 
   -- a line that is shown
   pub shown-line :
-      answer ≡ done → Appends out at (numeral answer ++ (32 ∷ characters entry line_bytes ++ report_text report) ++ line_end) out' next →
-      Appends out at (painted_line answer entry report) out' next
+      answer ≡ done → Prints o (numeral answer ++ (32 ∷ characters entry line_bytes ++ report_text report) ++ line_end) p →
+      Prints o (painted_line answer entry report) p
   unfolding painted_line
-  shown-line z p = simp (eq-eqb answer done z) p
+  shown-line z q = simp (eq-eqb answer done z) q
 
 -- the same line, if entries and report agree where it is served
 pub painted_same :

@@ -1,35 +1,25 @@
--- Laws of text put into a buffer.
-use mathlib.Core.Path.{◌≡◌, ◌∙◌, ap}
-use mathlib.Core.List.{List, ◌++◌, append_assoc}
-use Prim.Native.Nat.{ℕ, ◌+◌, ◌≤◌}
+-- Laws of text put into an output.
+use mathlib.Core.Path.{refl, ◌∙◌}
+use Prim.Native.Nat.{ℕ}
+use mathlib.Core.List.{List, [], ◌++◌, append_assoc, append-nil}
 use native.Mathlib.Omega.{arith}
-use borrow.Author.Tests.{le-leb}
-use lib.ListN.{length, take, drop, length-append}
-use lib.Seq.{sets, sets-eq, take-append_seam, length-take-le}
-use Rattle.common.specs.Storing.{PutsIfRoom}
-use Rattle.text.specs.Text.{Appends}
+use lib.ListN.{length-append}
+use Rattle.text.specs.declared.Output.{Output}
+use Rattle.text.specs.Text.{Prints}
 
--- bytes that are stored from a place on, where they have room
-pub appends :
-    {before text after : List ℕ} {at next : ℕ} → at + length text ≤ length before → PutsIfRoom before at text after next →
-    Appends before at text after next
-appends {before} {text} {after} {at} {next} room p =
-    let has = le-leb _ _ room in
-    let place : next ≡ at + length text = p.place ∙ simp has in
-    let front : List ℕ = take at before ++ text in
-    let put : after ≡ sets before at text = p.stored ∙ simp has in
-    let stored : after ≡ front ++ drop (at + length text) before = put ∙ sets-eq text before at room in
-    let size : length front ≡ at + length text = length-append (take at before) text ∙ ap (λ n. n + length text) (length-take-le at before (omega arith)) in
-    record { place = place; shown = rw (place, stored, ← size) (take-append_seam front _) }
+-- no text
+pub nothing : (o : Output) → Prints o [] o
+nothing o = record { lent = refl; size = refl; puts = record { place = omega arith; shown = simp append-nil } }
 
 -- two texts after each other
 pub joined :
-    {at next last : ℕ} {before between after text more : List ℕ} →
-    Appends before at text between next →
-    Appends between next more after last →
-    Appends before at (text ++ more) after last
-joined p q =
+    {o p q : Output} {text more : List ℕ} → Prints o text p → Prints p more q → Prints o (text ++ more) q
+joined s t =
     record {
-      place = simp length-append (omega (arith, p.place, q.place));
-      shown = simp (q.shown, p.shown, append_assoc);
+      lent = t.lent ∙ s.lent;
+      size = t.size ∙ s.size;
+      puts = record {
+        place = simp length-append (omega (arith, s.puts.place, t.puts.place));
+        shown = simp (t.puts.shown, s.puts.shown, append_assoc);
+      };
     }

@@ -1,8 +1,12 @@
 -- The lines of output.
-use Rattle.std.specs.Prelude.{List, [], ◌∷◌, ◌++◌, ℕ}
+use Rattle.std.specs.Prelude.{List, [], ◌∷◌, ◌++◌, ℕ, fold}
 use Rattle.sound.specs.declared.Report.{Report}
 use Rattle.sound.specs.Line.{did_of}
 use Rattle.text.specs.Text.{numeral, spaced_numeral, line_end, did_text}
+
+-- an answer, and other numbers behind it
+abbrev pub answer_line : ℕ → List ℕ → List ℕ
+answer_line answer others = fold (λ text n. text ++ spaced_numeral n) (numeral answer) others ++ line_end
 
 -- one number
 abbrev pub one_line : ℕ → List ℕ

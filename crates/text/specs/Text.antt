@@ -1,20 +1,15 @@
 -- Text as lists of character codes, and text put into a buffer.
-use Rattle.std.specs.Prelude.{◌≡◌, List, [], ◌∷◌, ◌++◌, ℕ, zero, suc, ◌+◌, ◌/◌, ◌%◌, ltb, length, take}
-use Rattle.common.specs.Choice.{if}
+use Rattle.std.specs.Prelude.{◌≡◌, List, [], ◌∷◌, ◌++◌, ℕ, ◌+◌, length, take}
 use Rattle.words.specs.declared.WordKind.{WordKind}
 use Rattle.words.specs.declared.WordKind.TheVariants.{Load, Pause, Repeat, Control, Nothing}
 use Rattle.sound.specs.declared.Did.{Did}
 use Rattle.sound.specs.declared.Did.TheVariants.{SatOut, Executed}
-use Rattle.io.specs.Digits.{hex_digit_ascii}
+use Rattle.std.specs.Fmt.{decimal}
+use Rattle.text.specs.declared.Output.{Output}
 
--- a number in decimal with no zeros in front, for a number of at most k + 1 digits
-unfoldable pub spelled : ℕ → ℕ → List ℕ
-spelled zero n = hex_digit_ascii (n % 10) ∷ []
-spelled (suc k) n = if (ltb n 10) (hex_digit_ascii (n % 10) ∷ []) (spelled k (n / 10) ++ hex_digit_ascii (n % 10) ∷ [])
-
--- a number below 2^64, which has at most 20 digits
-unfoldable pub numeral : ℕ → List ℕ
-numeral n = spelled 19 n
+-- a number in decimal with no zeros in front
+abbrev pub numeral : ℕ → List ℕ
+numeral n = decimal n
 
 -- a space and a number
 abbrev pub spaced_numeral : ℕ → List ℕ
@@ -40,3 +35,9 @@ did_text (Executed kind low) = kind_name kind ++ spaced_numeral low
 pub record Appends (before : List ℕ) (at : ℕ) (text after : List ℕ) (next : ℕ) : Type 0 where
   pub place : next ≡ at + length text
   pub shown : take next after ≡ take at before ++ text
+
+-- a text put into an output: at its place, in the same buffer, which is as long as before
+pub record Prints (o : Output) (text : List ℕ) (o' : Output) : Type 0 where
+  pub lent : o'.bytes.ghost_name ≡ o.bytes.ghost_name
+  pub size : length o'.bytes.now ≡ length o.bytes.now
+  pub puts : Appends o.bytes.now o.at text o'.bytes.now o'.at

@@ -1,9 +1,9 @@
 // A line as text.
 ghost use Rattle.std.specs.Prelude.{◌≡◌, ◌+◌, ◌≤◌, length, get_or};
-ghost use Rattle.text.specs.Text.{Appends};
+ghost use Rattle.text.specs.Text.{Prints};
 ghost use Rattle.text.specs.Paint.{character, characters, painted_line};
 
-use crate::lines;
+use crate::Output;
 use common::answer::DONE;
 use sound::Report;
 
@@ -11,41 +11,37 @@ use sound::Report;
 pub fn character(entry: u8) -> u8
     ensures { result ≡ character entry }
 {
-    if entry < 10 {
-        return 48 + entry;
+    match entry {
+        0..10 => b'0' + entry,
+        10..32 => b'a' + (entry - 10),
+        _ => b'?',
     }
-    if entry < 32 {
-        return 87 + entry;
-    }
-    63
 }
 
-// The characters of 640 entries.
-fn put_entries(out: &mut [u8], at: usize, line: &[u8]) -> usize
-    requires { at + 640 ≤ length out.old }
-    ensures appends { Appends out.old at (characters (λ x. get_or line.now x 0) 640) out.new result }
-    ensures value { result ≡ at + 640 }
-{
-    let mut i = 0;
-    while i < 640 {
-        out[at + i] = character(common::byte_at(line, i));
-        i += 1;
+impl Output<'_> {
+    // The characters of 640 entries.
+    fn entries(&mut self, line: &[u8])
+        requires { self.old.at + 640 ≤ length self.old.bytes.now }
+        ensures prints { Prints self.old (characters (λ x. get_or line.now x 0) 640) self.new }
+        ensures value { self.new.at ≡ self.old.at + 640 }
+    {
+        for x in 0..640 {
+            self.put(&[character(common::byte_at(line, x))]);
+        }
     }
-    at + i
-}
 
-// The line of a record that shows a line: the answer, and if it was served the entries and the report.
-pub fn painted(out: &mut [u8], at: usize, answer: u8, line: &[u8], report: Report) -> usize
-    requires { at + 770 ≤ length out.old }
-    ensures appends { Appends out.old at (painted_line answer (λ x. get_or line.now x 0) report) out.new result }
-    ensures upper_bound { result ≤ at + 770 }
-{
-    let next = crate::number(out, at, answer as u64);
-    if answer != DONE {
-        return crate::ended(out, next);
+    // The line of a record that shows a line: the answer, and if it was served the entries and the report.
+    pub fn painted(&mut self, answer: u8, line: &[u8], report: Report)
+        requires { self.old.at + 770 ≤ length self.old.bytes.now }
+        ensures prints { Prints self.old (painted_line answer (λ x. get_or line.now x 0) report) self.new }
+        ensures upper_bound { self.new.at ≤ self.old.at + 770 }
+    {
+        self.number(u64::from(answer));
+        if answer == DONE {
+            self.put(b" ");
+            self.entries(line);
+            self.reported(report);
+        }
+        self.ended();
     }
-    let first = crate::put(out, next, b" ");
-    let end = put_entries(out, first, line);
-    let last = lines::reported(out, end, report);
-    crate::ended(out, last)
 }

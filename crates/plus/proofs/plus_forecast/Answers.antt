@@ -3,23 +3,26 @@ use Rattle.std.proofs.Common.{◌≡◌, ◌∙◌, sym, arith}
 use Rattle.forecast.specs.Rule.{answer_of, list_of}
 use Rattle.plus.proofs.Part.{list_inside, list-part}
 use Rattle.plus.proofs.plus_forecast.Goals as goal
+use Rattle.plus.proofs.plus_forecast.Goals.{After-list}
 
-pub overflow_cast-result-2 : goal.overflow_cast-result-2
-overflow_cast-result-2 c =
-    let ram = c.args.ram.now in
-    let served : answer_of ram c.args.start ≡ 0 = sym c.forecast-told.ensures.answer ∙ c.if-told-ne-DONE.false in
-    let lent : c.list-list.result.now ≡ list_of ram c.args.start = c.list-list.ensures ∙ simp served in
-    let inside = list_inside ram c.args.start (omega arith) in
-    record { fits = rw lent (omega (arith, inside)) }
+-- the forecast is served, and the list is lent
+module _ (c : After-list) where
+  done : answer_of c.args.ram.now c.args.start ≡ 0
+  done = sym c.in-Ok.ensures.answer
 
-pub returns : goal.returns
-returns c =
-    let ram = c.args.ram.now in
-    let served : answer_of ram c.args.start ≡ 0 = sym c.forecast-told.ensures.answer ∙ c.if-told-ne-DONE.false in
-    let lent : c.list-list.result.now ≡ list_of ram c.args.start = c.list-list.ensures ∙ simp served in
+  lent : c.list.result.now ≡ list_of c.args.ram.now c.args.start
+  lent = c.list.ensures ∙ simp done
+
+pub overflow_cast-result-in-Ok : goal.overflow_cast-result-in-Ok
+overflow_cast-result-in-Ok c =
+    let inside = list_inside c.args.ram.now c.args.start (omega arith) in
+    record { fits = rw (lent c) (omega (arith, inside)) }
+
+pub returns-in-Ok : goal.returns-in-Ok
+returns-in-Ok c =
     record {
-      told = c.forecast-told.ensures;
-      offset = simp served;
-      size = simp (served, lent);
-      list = simp (served, lent, list-part);
+      told = c.in-Ok.ensures;
+      offset = simp (done c);
+      size = simp (done c, lent c);
+      list = simp (done c, lent c, list-part);
     }

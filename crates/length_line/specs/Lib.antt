@@ -1,0 +1,2 @@
+-- The line of a list.
+pub mod Line

@@ -1,2 +1,0 @@
--- What a letter asks for.
-pub mod Letters
