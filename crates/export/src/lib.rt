@@ -7,7 +7,7 @@ ghost use Rattle.export.specs.Export.{Exports};
 ghost use Rattle.export.specs.Parts.{address_of, PutsThree};
 
 use chip::Chip;
-use common::answer::{DONE, WRONG_LENGTH};
+use common::answer::{DONE, Refusal};
 use common::size::EXPORT;
 
 // How many registers are exported.
@@ -19,16 +19,13 @@ fn address_of(k: usize) -> u16
     requires { k < 159 }
     ensures { result ≡ address_of k }
 {
-    if k < 80 {
-        return (0x6000 + k / 5 * 8 + k % 5) as u16;
-    }
-    if k < 144 {
-        return (0x6400 + (k - 80)) as u16;
-    }
-    if k < 150 {
-        return (0x6800 + (k - 144)) as u16;
-    }
-    (0x6c00 + (k - 150) / 3 * 4 + (k - 150) % 3) as u16
+    let address = match k {
+        0..80 => 0x6000 + k / 5 * 8 + k % 5,
+        80..144 => 0x6400 + (k - 80),
+        144..150 => 0x6800 + (k - 144),
+        _ => 0x6c00 + (k - 150) / 3 * 4 + (k - 150) % 3,
+    };
+    address as u16
 }
 
 // An address, low byte first, and a byte.
@@ -41,21 +38,18 @@ fn put_three(out: &mut [u8], at: usize, address: u16, byte: u8)
     out[at + 2] = byte;
 }
 
-// Writes the export; a buffer of another length than 477 bytes is refused and stays as it was.
+// Writes the export. Its answer is a number, since plus_export hands it on to C; a buffer of another length than 477 bytes is refused and stays as it was.
 pub fn export(chip: Chip, out: &mut [u8]) -> u8
     ensures { Exports chip out.old out.new result }
 {
     if out.len() != EXPORT {
-        return WRONG_LENGTH;
+        return Refusal::WrongLength.number();
     }
-    let no_pixels = [0u8; 0];
-    let mut k = 0;
-    while k < REGISTERS {
+    for k in 0..REGISTERS {
         let address = address_of(k);
         let register = registers::address::register_at(address);
-        let byte = contents::contents_of(chip, &no_pixels, register);
+        let byte = contents::contents_of(chip, &[], register);
         put_three(out, k * 3, address, byte);
-        k += 1;
     }
     DONE
 }

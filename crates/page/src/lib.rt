@@ -10,7 +10,7 @@ ghost use Rattle.page.specs.declared.Edit.TheVariants.{Write};
 ghost use Rattle.page.specs.Parts.{refusal, back_change, KeepsEntry, Changes, Edits};
 
 use chip::{Answered, Chip};
-use common::answer::{DONE, NOT_MAPPED, NOTHING_TO_UNDO, WRONG_LENGTH, answer_number};
+use common::answer::{DONE, Refusal, answer_number};
 use common::size::STORE;
 use editors::Editor;
 use registers::address::Register;
@@ -48,16 +48,16 @@ fn read_answer(chip: Chip, size: usize, address: u16) -> u8
     ensures { result ≡ read_answer chip size address }
 {
     if size != STORE {
-        return WRONG_LENGTH;
+        return Refusal::WrongLength.number();
     }
     if address < 0x4000 {
-        return NOT_MAPPED;
+        return Refusal::NotMapped.number();
     }
     if 0x8000 <= address {
-        return NOT_MAPPED;
+        return Refusal::NotMapped.number();
     }
     if !chip.gate.mapped {
-        return NOT_MAPPED;
+        return Refusal::NotMapped.number();
     }
     DONE
 }
@@ -130,10 +130,10 @@ fn undo_change(undo: Undo, length: usize, entry: u32) -> Change
     ensures { result ≡ back_change undo length entry }
 {
     if length != STORE {
-        return refusal(undo, WRONG_LENGTH);
+        return refusal(undo, Refusal::WrongLength.number());
     }
     if undo.count == 0 {
-        return refusal(undo, NOTHING_TO_UNDO);
+        return refusal(undo, Refusal::NothingToUndo.number());
     }
     let byte = (entry % 256) as u8;
     Change {

@@ -11,7 +11,7 @@ pub returns-then-out-ne-EXPORT : goal.returns-then-out-ne-EXPORT
 unfolding export_answer
 returns-then-out-ne-EXPORT c =
     let t = ne_eqb _ _ c.if-out-ne-EXPORT.true in
-    record { answer = simp t; buffer = simp t }
+    record { answer = simp t (search rules); buffer = simp t }
 
 pub loop-k-init : goal.loop-k-init
 unfolding bytes_of
