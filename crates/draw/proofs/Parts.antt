@@ -105,8 +105,3 @@ module _ (c : Chip) where
           size = same;
           refused = λ f. absurd (f refl);
         }
-
-  pub kept :
-      {ram store before : List ℕ} {r : ℕ} → (r ≡ 0 → ⊥) → r ≡ draw_answer c (length ram) (length store) (length before) →
-      Draws c ram store before before r
-  kept nonzero answered = record { answer = answered; drawn = λ e. absurd (nonzero e); size = refl; refused = λ f. refl }
