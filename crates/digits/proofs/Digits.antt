@@ -54,9 +54,3 @@ module _ (n : ℕ) where
 
   pub four-parts : 1000 ≤ n → decimal n ≡ digits 10 2 (n / 100) ++ digits 10 2 n
   four-parts g = four g ∙ split_digits 10 2 2 n
-
-pub hundreds : (n : ℕ) → 100 ≤ n → n < 10000 → decimal n ≡ decimal (n / 100) ++ digits 10 2 n
-hundreds n g h =
-    either_side n 1000
-    (λ a. rw (one (n / 100) (omega arith)) (three-parts n g a))
-    (λ b. rw (two (n / 100) (omega arith) (omega arith)) (four-parts n b))

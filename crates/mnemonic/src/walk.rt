@@ -1,5 +1,5 @@
 // A word's line handed to a sink, part after part. What is called at more than one place is inlined, so that a sink stays in registers.
-ghost use Rattle.std.specs.Prelude.{◌≡◌, List, ◌++◌, ℕ, ◌/◌, ◌%◌, ◌≤◌, ◌<◌};
+ghost use Rattle.std.specs.Prelude.{◌≡◌, List, ◌++◌, ℕ, ◌/◌, ◌≤◌, ◌<◌};
 ghost use Rattle.digits.specs.Digits.{digits, decimal};
 ghost use Rattle.mnemonic.specs.Mnemonic.{text_line};
 ghost use Rattle.mnemonic.specs.Parts.{decimal_then, load_line_of, word_line};
