@@ -21,8 +21,8 @@ use Rattle.overlay.specs.declared.shown.Spans.{Spans}
 use Rattle.overlay.specs.declared.Stretch.{Stretch}
 use Rattle.overlay.proofs.Search.{search-more, search-found}
 use Rattle.overlay.proofs.Covers.{covers_show}
-use Rattle.draw.specs.declared.Edges.{Edges}
-use Rattle.draw.specs.declared.Main.{Main}
+use Rattle.draw.specs.declared.layout.Edges.{Edges}
+use Rattle.draw.specs.declared.layout.Main.{Main}
 use Rattle.draw.specs.Mixing.{main_at, over_at, covered_at, mixed_at, Has, Changed}
 
 -- a part that is changed from its start on
@@ -114,10 +114,10 @@ none_laid store list none = record { inside = λ x g h. rw none; below = λ x h.
 
 -- a line's pens give the main pen: its lead of 16 shows left of the scroll
 pens_main :
-    {ram pens : List ℕ} (m : Main) → LinePens ram m.mode m.address m.row pens → m.scroll ≤ 16 → (x : ℕ) → x < 640 →
+    {ram pens : List ℕ} (m : Main) → LinePens ram m.mode m.address m.row pens → (x : ℕ) → x < 640 →
     get_or pens (x + (16 - m.scroll)) 0 ≡ main_at ram m x
 unfolding main_at
-pens_main m line low x h =
+pens_main m line x h =
     either_side x m.scroll (λ less. rw (lt-ltb x m.scroll less) (line.lead (x + (16 - m.scroll)) (omega arith)))
     (λ more.
     let e : x + (16 - m.scroll) ≡ 16 + (x - m.scroll) = omega arith in
@@ -135,7 +135,7 @@ module _ (from to : ℕ) (line part : List ℕ) (order : from ≤ to) (inside : 
   copied-beyond x h = search (rules, places)
 
 -- from its pens
-module _ {ram pens before : List ℕ} (m : Main) (from to : ℕ) (line : LinePens ram m.mode m.address m.row pens) (low : m.scroll ≤ 16)
+module _ {ram pens before : List ℕ} (m : Main) (from to : ℕ) (line : LinePens ram m.mode m.address m.row pens)
     (order : from ≤ to) (inside : to ≤ 640) (long : length before ≡ 640) where
   pub main_laid :
       {part : List ℕ} → part ≡ slice_range pens (from + (16 - m.scroll)) (to + (16 - m.scroll)) →
@@ -149,7 +149,7 @@ module _ {ram pens before : List ℕ} (m : Main) (from to : ℕ) (line : LinePen
             λ x h g.
             let e : from + lead + (x - from) ≡ x + lead = omega arith in
             let its : get_or part (x - from) 0 ≡ main_at ram m x =
-            rw (is, get_or-between pens (from + lead) (to + lead) (x - from) 0 (omega arith), e) (pens_main m line low x (omega arith)) in
+            rw (is, get_or-between pens (from + lead) (to + lead) (x - from) 0 (omega arith), e) (pens_main m line x (omega arith)) in
             copied-inside from to before part order room size x h g ∙ its;
         below = copied-below from to before part order room size;
         beyond = copied-beyond from to before part order room size;

@@ -16,8 +16,8 @@ use Rattle.overlay.specs.Overlay.{Overlay}
 use Rattle.overlay.specs.declared.shown.LineSprites.{LineSprites}
 use Rattle.common.proofs.Order.{either_side}
 use Rattle.chip.specs.declared.Chip.{Chip}
-use Rattle.draw.specs.declared.Edges.{Edges}
-use Rattle.draw.specs.declared.Main.{Main}
+use Rattle.draw.specs.declared.layout.Edges.{Edges}
+use Rattle.draw.specs.declared.layout.Main.{Main}
 use Rattle.draw.specs.Drawing.{draw_answer, all_border, is_border, frame_line, main_pen, screen_pen, entry_at, Draws}
 use Rattle.draw.specs.Mixing.{left_of, right_of, outside, main_at, over_at, mixed_at, Has}
 
@@ -64,6 +64,17 @@ sizes c ram store line served =
     by-test true false v f = absurd (omega (arith, sym f))
     by-test false u v f = absurd (omega (arith, sym f))
 
+-- the edges and the main screen of a chip's line
+pub record EdgesOf (c : Chip) (e : Edges) : Type 0 where
+  pub left : e.left ≡ left_of c.video.sscr
+  pub right : e.right ≡ right_of c.crtc.registers c.crtc.counters
+
+pub record MainOf (c : Chip) (m : Main) : Type 0 where
+  pub mode : m.mode ≡ c.gate.mode
+  pub address : m.address ≡ c.crtc.counters.address
+  pub row : m.row ≡ row_line c.crtc.counters.rc (scroll_lines c.video.sscr)
+  pub scroll : m.scroll ≡ c.video.sscr % 16
+
 module _ (c : Chip) where
   -- the edges tell the border
   edges : (x : ℕ) → x < 640 →
@@ -74,30 +85,16 @@ module _ (c : Chip) where
       (by_all (either c.crtc.counters.adjust (leb c.crtc.registers.r6 c.crtc.counters.vc))
       (both (bit 7 c.video.sscr) (ltb x 16)) c.crtc.registers.r1 x h)
 
-  abbrev edges_of : Edges
-  edges_of =
-      record {
-        left = left_of c.video.sscr;
-        right = right_of c.crtc.registers c.crtc.counters;
-      }
-
-  abbrev main_of : Main
-  main_of =
-      record {
-        mode = c.gate.mode;
-        address = c.crtc.counters.address;
-        row = row_line c.crtc.counters.rc (scroll_lines c.video.sscr);
-        scroll = c.video.sscr % 16;
-      }
-
-  module _ (ram store : List ℕ) (shown : LineSprites) (sprites : Overlay c.sprites (frame_line c) shown) where
-    entry : (x : ℕ) → x < 640 → mixed_at ram main_of shown store edges_of x ≡ entry_at c ram store x
+  module _ (ram store : List ℕ) {shown : LineSprites} (sprites : Overlay c.sprites (frame_line c) shown) {m : Main} {e : Edges}
+      (main : MainOf c m) (border : EdgesOf c e) where
+    entry : (x : ℕ) → x < 640 → mixed_at ram m shown store e x ≡ entry_at c ram store x
     unfolding mixed_at over_at entry_at main_at main_pen screen_pen
-    entry x h = rw (edges x h, sprites.first store x)
+    entry x h =
+        rw (border.left, border.right, edges x h, main.mode, main.address, main.row, main.scroll, sprites.first store x)
 
     pub served :
         {before after : List ℕ} → 0 ≡ draw_answer c (length ram) (length store) (length before) →
-        Has (mixed_at ram main_of shown store edges_of) 640 after → length after ≡ length before → Draws c ram store before after 0
+        Has (mixed_at ram m shown store e) 640 after → length after ≡ length before → Draws c ram store before after 0
     served answered has same =
         record {
           answer = answered;

@@ -9,8 +9,8 @@ use Rattle.overlay.specs.Overlay.{first_on}
 use Rattle.overlay.specs.Stretches.{first_cover}
 use Rattle.overlay.specs.declared.shown.LineSprite.{LineSprite}
 use Rattle.overlay.specs.declared.shown.LineSprites.{LineSprites}
-use Rattle.draw.specs.declared.Edges.{Edges}
-use Rattle.draw.specs.declared.Main.{Main}
+use Rattle.draw.specs.declared.layout.Edges.{Edges}
+use Rattle.draw.specs.declared.layout.Main.{Main}
 
 -- the left edge is at 16 if SSCR bit 7 is set
 abbrev pub left_of : ℕ → ℕ

@@ -10,32 +10,19 @@ ghost use Rattle.overlay.specs.Stretches.{Covered};
 ghost use Rattle.draw.specs.Drawing.{draw_answer, Draws};
 ghost use Rattle.draw.specs.Mixing.{left_of, right_of, main_at, over_at, covered_at, mixed_at, Has, Changed};
 
+mod layout;
+
 use chip::Chip;
 use common::answer::Refusal;
 use common::size::{LINE, RAM, STORE};
 use crtc::{Counters, Registers};
+use layout::{Edges, Main};
 use overlay::Stretch;
 use overlay::shown::{LineSprite, LineSprites, Spans};
 
-// Where a line is border, which is below `left` and from `right` on.
-#[derive(Clone, Copy)]
-struct Edges {
-    left: usize,
-    right: usize,
-}
-
-// The main screen on a line: its mode, the screen address, the line in the row, and how many positions the scroll moves it right.
-#[derive(Clone, Copy)]
-struct Main {
-    mode: u8,
-    address: u16,
-    row: u8,
-    scroll: usize,
-}
-
 // The main screen between the edges. Its pens are made where they are laid: a whole line of them, handed on, would be copied.
 fn lay_main(line: &mut [u8; 640], ram: &[u8], main: Main, edges: Edges)
-    requires { (main.scroll ≤ 16) × (edges.left ≤ edges.right) × (edges.right ≤ 640) }
+    requires { edges.left ≤ edges.right }
     ensures { Changed (λ x v. main_at ram.now main x) edges.left edges.right line.old line.new }
 {
     let pens = screen::line_pens(ram, main.mode, main.address, main.row);
@@ -83,7 +70,7 @@ fn lay_stretch(
 
 // The sprites between the edges, stretch by stretch.
 fn lay_sprites(line: &mut [u8; 640], shown: &LineSprites, store: &[u8; 4096], edges: Edges)
-    requires { (edges.left ≤ edges.right) × (edges.right ≤ 640) }
+    requires { edges.left ≤ edges.right }
     ensures { Changed (over_at store.now shown.now.list shown.now.count) edges.left edges.right line.old line.new }
 {
     if shown.count == 0 {
@@ -112,7 +99,6 @@ fn mix(
     store: &[u8; 4096],
     edges: Edges,
 )
-    requires { (edges.right ≤ 640) × (main.scroll ≤ 16) }
     ensures { Has (mixed_at ram.now main shown.now store.now edges) 640 line.new }
 {
     line.fill(16);

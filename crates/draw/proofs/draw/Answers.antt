@@ -1,5 +1,5 @@
 -- The store and the line have their lengths; a line that is served is border, the main pens and the sprites, as its parts lay them.
-use Rattle.std.proofs.Common.{rules, sym}
+use Rattle.std.proofs.Common.{rules, refl, sym}
 use Rattle.draw.proofs.Parts.{sizes, served}
 use Rattle.draw.proofs.draw.Goals as goal
 
@@ -12,6 +12,7 @@ unwrap-line-requires c = c.as_mut_array.ensures.variant.1 (sizes c.args.chip _ _
 pub returns : goal.returns
 returns c =
     let store = rw c.unwrap-store.ensures at c.as_array.ensures.cases in
-    served _ _ _ _ (rw c.frame_line.ensures at c.line_sprites-shown.ensures) c.in_ok-may_draw.ensures
-    (rw (c.left_of.ensures, c.right_of.ensures.0, c.row_line.ensures, c.scroll_of.ensures, store.same) at c.mix.ensures)
-    (search rules)
+    served _ _ _ (rw c.frame_line.ensures at c.line_sprites-shown.ensures)
+    (record { mode = refl; address = refl; row = c.row_line.ensures; scroll = c.scroll_of.ensures })
+    (record { left = c.left_of.ensures; right = c.right_of.ensures.0 })
+    c.in_ok-may_draw.ensures (rw store.same at c.mix.ensures) (search rules)

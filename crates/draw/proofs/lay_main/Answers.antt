@@ -4,6 +4,5 @@ use Rattle.draw.proofs.lay_main.Goals as goal
 
 pub returns : goal.returns
 returns c =
-    let p = c.requires in
     let edges = c.args.edges in
-    main_laid c.args.main edges.left edges.right c.line_pens-pens.ensures p.0 p.1 p.2 c.told-line c.copy_from_slice.ensures.after
+    main_laid c.args.main edges.left edges.right c.line_pens-pens.ensures c.requires edges.in_line c.told-line c.copy_from_slice.ensures.after
