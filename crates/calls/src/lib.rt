@@ -5,6 +5,7 @@
 ghost use Rattle.std.specs.Prelude.{◌≡◌, ◌+◌, ◌≤◌, length};
 ghost use Rattle.common.specs.Answers.{done};
 ghost use Rattle.line.specs.Contract.{Shows};
+ghost use Rattle.text.specs.Text.{Room};
 ghost use Rattle.text.specs.Lines.{one_line, three_line};
 ghost use Rattle.runs.specs.Call.{bc, bd, gate, read, write, undo, ack, remove};
 ghost use Rattle.calls.specs.Orders.{calls, pokes, waits, starts, gives, places, resets, exports, hears, shows, foretells, unknown, accesses_in, mute_by, shown, number_in, owners_in, copied, Performs};
@@ -78,21 +79,19 @@ fn copied_out(ram: &[u8], address: u16, list: &mut [u8])
 impl Machine<'_> {
     // A call that answers one number.
     fn answered(&mut self, told: Answered)
-        requires { self.old.out.at + 1024 ≤ length self.old.out.bytes.now }
+        requires { Room self.old.out 1024 }
         ensures { Tells self.old told.chip (one_line told.answer) self.new }
     {
-        let chip = told.chip;
-        self.chip = chip;
+        self.chip = told.chip;
         self.out.answered(told.answer, &[]);
     }
 
     // Placing, which answers an address and a handle too.
     fn placed(&mut self, told: PlacedList)
-        requires { self.old.out.at + 1024 ≤ length self.old.out.bytes.now }
+        requires { Room self.old.out 1024 }
         ensures { Tells self.old told.chip (three_line told.answer told.address told.handle) self.new }
     {
-        let chip = told.chip;
-        self.chip = chip;
+        self.chip = told.chip;
         self.out.answered(
             told.answer,
             &[u64::from(told.address), u64::from(told.handle)],
@@ -101,7 +100,7 @@ impl Machine<'_> {
 
     // What is always done.
     fn done(&mut self)
-        requires { self.old.out.at + 1024 ≤ length self.old.out.bytes.now }
+        requires { Room self.old.out 1024 }
         ensures { Tells self.old self.old.chip (one_line done) self.new }
     {
         self.out.answered(DONE, &[]);
@@ -109,7 +108,7 @@ impl Machine<'_> {
 
     // A byte to BCxx.
     pub fn selected(&mut self, value: u8)
-        requires { self.old.out.at + 1024 ≤ length self.old.out.bytes.now }
+        requires { Room self.old.out 1024 }
         ensures { Performs self.old (calls (bc value)) self.new }
     {
         self.answered(chip::ports::write_bc(self.chip, value));
@@ -117,7 +116,7 @@ impl Machine<'_> {
 
     // A byte to the 6845's data port.
     pub fn data_written(&mut self, value: u8)
-        requires { self.old.out.at + 1024 ≤ length self.old.out.bytes.now }
+        requires { Room self.old.out 1024 }
         ensures { Performs self.old (calls (bd value)) self.new }
     {
         self.answered(chip::ports::write_bd(self.chip, value));
@@ -125,7 +124,7 @@ impl Machine<'_> {
 
     // A byte to 7Fxx.
     pub fn gate_written(&mut self, value: u8)
-        requires { self.old.out.at + 1024 ≤ length self.old.out.bytes.now }
+        requires { Room self.old.out 1024 }
         ensures { Performs self.old (calls (gate value)) self.new }
     {
         self.answered(chip::ports::write_7f(self.chip, value));
@@ -133,7 +132,7 @@ impl Machine<'_> {
 
     // A page write of an editor.
     pub fn page_written(&mut self, editor: Editor, address: u16, value: u8)
-        requires { self.old.out.at + 1024 ≤ length self.old.out.bytes.now }
+        requires { Room self.old.out 1024 }
         ensures { Performs self.old (calls (write editor address value)) self.new }
     {
         let told = match editor {
@@ -154,7 +153,7 @@ impl Machine<'_> {
 
     // An editor's last page write taken back.
     pub fn undone(&mut self, editor: Editor)
-        requires { self.old.out.at + 1024 ≤ length self.old.out.bytes.now }
+        requires { Room self.old.out 1024 }
         ensures { Performs self.old (calls (undo editor)) self.new }
     {
         let told = match editor {
@@ -166,7 +165,7 @@ impl Machine<'_> {
 
     // The registers exported.
     pub fn exported(&mut self)
-        requires { self.old.out.at + 1024 ≤ length self.old.out.bytes.now }
+        requires { Room self.old.out 1024 }
         ensures { Performs self.old exports self.new }
     {
         self.out.exported(self.chip);
@@ -174,7 +173,7 @@ impl Machine<'_> {
 
     // The PSG's registers shown.
     pub fn psg_shown(&mut self)
-        requires { self.old.out.at + 1024 ≤ length self.old.out.bytes.now }
+        requires { Room self.old.out 1024 }
         ensures { Performs self.old hears self.new }
     {
         self.out.psg(self.chip.sound.psg);
@@ -182,7 +181,7 @@ impl Machine<'_> {
 
     // A page read of an editor.
     pub fn page_shown(&mut self, editor: Editor, address: u16, bus: u8)
-        requires { self.old.out.at + 1024 ≤ length self.old.out.bytes.now }
+        requires { Room self.old.out 1024 }
         ensures { Performs self.old (calls (read editor address bus)) self.new }
     {
         let store = &mut *self.store;
@@ -192,12 +191,11 @@ impl Machine<'_> {
 
     // An acknowledge.
     pub fn acknowledged(&mut self)
-        requires { self.old.out.at + 1024 ≤ length self.old.out.bytes.now }
+        requires { Room self.old.out 1024 }
         ensures { Performs self.old (calls ack) self.new }
     {
         let told = chip::acknowledge::acknowledge(self.chip);
-        let chip = told.chip;
-        self.chip = chip;
+        self.chip = told.chip;
         self.out.answered(told.answer, &[u64::from(told.vector)]);
     }
 
@@ -207,15 +205,14 @@ impl Machine<'_> {
         ensures is { self.new ≡ record self.old { chip = result.chip } }
     {
         let (ram, store) = (&mut *self.ram, &mut *self.store);
-        let told = line::line(self.chip, ram, store, line, accesses_in(value));
-        let next = told.chip;
-        self.chip = next;
-        told
+        let stepped = line::line(self.chip, ram, store, line, accesses_in(value));
+        self.chip = stepped.chip;
+        stepped
     }
 
     // A line that is drawn and stepped.
     pub fn stepped(&mut self, value: u8)
-        requires { self.old.out.at + 1024 ≤ length self.old.out.bytes.now }
+        requires { Room self.old.out 1024 }
         ensures { Performs self.old (calls (shown (accesses_in value))) self.new }
     {
         let told = self.drawn(&mut [0; 640], value);
@@ -224,7 +221,7 @@ impl Machine<'_> {
 
     // The same, and the line is shown.
     pub fn painted(&mut self, value: u8)
-        requires { self.old.out.at + 1024 ≤ length self.old.out.bytes.now }
+        requires { Room self.old.out 1024 }
         ensures { Performs self.old (shows (accesses_in value)) self.new }
     {
         let mut line = [0; 640];
@@ -234,7 +231,7 @@ impl Machine<'_> {
 
     // A forecast.
     pub fn foretold(&mut self, start: u16, prescale: u8)
-        requires { self.old.out.at + 1024 ≤ length self.old.out.bytes.now }
+        requires { Room self.old.out 1024 }
         ensures { Performs self.old (foretells start prescale) self.new }
     {
         let ram = &mut *self.ram;
@@ -245,7 +242,7 @@ impl Machine<'_> {
 
     // A byte of RAM changed.
     pub fn poked(&mut self, address: u16, value: u8)
-        requires { (self.old.out.at + 1024 ≤ length self.old.out.bytes.now) × (length self.old.ram.now ≡ 65536) }
+        requires { Room self.old.out 1024 × (length self.old.ram.now ≡ 65536) }
         ensures { Performs self.old (pokes address value) self.new }
     {
         self.ram[address as usize] = value;
@@ -254,7 +251,7 @@ impl Machine<'_> {
 
     // A byte that is to wait, if there is a place for it.
     pub fn kept_waiting(&mut self, address: u16, value: u8)
-        requires { self.old.out.at + 1024 ≤ length self.old.out.bytes.now }
+        requires { Room self.old.out 1024 }
         ensures { Performs self.old (waits address value) self.new }
     {
         if address < 16 {
@@ -265,7 +262,7 @@ impl Machine<'_> {
 
     // A start with the table that waits.
     pub fn started(&mut self)
-        requires { self.old.out.at + 1024 ≤ length self.old.out.bytes.now }
+        requires { Room self.old.out 1024 }
         ensures { Performs self.old starts self.new }
     {
         let owners = owners_in(self.waiting);
@@ -274,7 +271,7 @@ impl Machine<'_> {
 
     // The area with the bounds that wait.
     pub fn area_given(&mut self)
-        requires { self.old.out.at + 1024 ≤ length self.old.out.bytes.now }
+        requires { Room self.old.out 1024 }
         ensures { Performs self.old gives self.new }
     {
         let from = number_in(self.waiting, 7);
@@ -284,7 +281,7 @@ impl Machine<'_> {
 
     // A list placed. It stands in RAM from the address on, and the high byte of its length waits.
     pub fn list_placed(&mut self, address: u16, value: u8)
-        requires { self.old.out.at + 1024 ≤ length self.old.out.bytes.now }
+        requires { Room self.old.out 1024 }
         ensures { Performs self.old (places address value) self.new }
     {
         let bytes = u16::from_le_bytes([value, self.waiting[15]]);
@@ -298,7 +295,7 @@ impl Machine<'_> {
 
     // A list removed by its handle.
     pub fn list_removed(&mut self, handle: u8)
-        requires { self.old.out.at + 1024 ≤ length self.old.out.bytes.now }
+        requires { Room self.old.out 1024 }
         ensures { Performs self.old (calls (remove handle)) self.new }
     {
         let told = placing::remove(self.chip, self.slots, u32::from(handle));
@@ -307,7 +304,7 @@ impl Machine<'_> {
 
     // A channel muted by a value that isn't 0, or heard again.
     pub fn muted(&mut self, channel: u16, value: u8)
-        requires { self.old.out.at + 1024 ≤ length self.old.out.bytes.now }
+        requires { Room self.old.out 1024 }
         ensures { Performs self.old (calls (mute_by channel value)) self.new }
     {
         self.answered(chip::mute::mute(self.chip, channel, value != 0));
@@ -315,18 +312,17 @@ impl Machine<'_> {
 
     // A reset, which clears the waiting bytes.
     pub fn reset(&mut self)
-        requires { self.old.out.at + 1024 ≤ length self.old.out.bytes.now }
+        requires { Room self.old.out 1024 }
         ensures { Performs self.old resets self.new }
     {
-        let chip = chip::start::reset();
-        self.chip = chip;
+        self.chip = chip::start::reset();
         self.waiting = [0; 16];
         self.done();
     }
 
     // A letter that names nothing.
     pub fn not_known(&mut self)
-        requires { self.old.out.at + 1024 ≤ length self.old.out.bytes.now }
+        requires { Room self.old.out 1024 }
         ensures { Performs self.old unknown self.new }
     {
         self.out.bad();

@@ -2,7 +2,8 @@
 
 #![tactic(auto)]
 
-ghost use Rattle.std.specs.Prelude.{◌≡◌, ◌+◌, ◌≤◌, length};
+ghost use Rattle.std.specs.Prelude.{◌≡◌, length};
+ghost use Rattle.text.specs.Text.{Room};
 ghost use Rattle.calls.specs.Orders.{running_of, SameBuffers};
 ghost use Rattle.orders.specs.Letters.{Serves};
 
@@ -19,7 +20,7 @@ pub struct Order {
 
 // What an order asks for.
 pub fn serve(m: &mut Machine<'_>, o: Order)
-    requires { (m.old.out.at + 1024 ≤ length m.old.out.bytes.now) × (length m.old.ram.now ≡ 65536) }
+    requires { Room m.old.out 1024 × (length m.old.ram.now ≡ 65536) }
     ensures serves { Serves (running_of m.old) o (running_of m.new) m.old.out.bytes.now m.old.out.at m.new.out.bytes.now m.new.out.at }
     ensures lent { SameBuffers m.old m.new }
 {

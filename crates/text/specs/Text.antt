@@ -1,5 +1,5 @@
 -- Text as lists of character codes, and text put into a buffer.
-use Rattle.std.specs.Prelude.{◌≡◌, List, [], ◌∷◌, ◌++◌, ℕ, ◌+◌, length, take}
+use Rattle.std.specs.Prelude.{◌≡◌, List, [], ◌∷◌, ◌++◌, ℕ, ◌+◌, ◌≤◌, length, take}
 use Rattle.words.specs.declared.WordKind.{WordKind}
 use Rattle.words.specs.declared.WordKind.TheVariants.{Load, Pause, Repeat, Control, Nothing}
 use Rattle.sound.specs.declared.Did.{Did}
@@ -41,3 +41,7 @@ pub record Prints (o : Output) (text : List ℕ) (o' : Output) : Type 0 where
   pub lent : o'.bytes.ghost_name ≡ o.bytes.ghost_name
   pub size : length o'.bytes.now ≡ length o.bytes.now
   pub puts : Appends o.bytes.now o.at text o'.bytes.now o'.at
+
+-- an output has room for so many bytes more
+abbrev pub Room : Output → ℕ → Type 0
+Room o n = o.at + n ≤ length o.bytes.now

@@ -1,6 +1,6 @@
 // The export and the PSG as text.
 ghost use Rattle.std.specs.Prelude.{◌≡◌, ◌+◌, ◌*◌, ◌≤◌, length};
-ghost use Rattle.text.specs.Text.{Prints};
+ghost use Rattle.text.specs.Text.{Prints, Room};
 ghost use Rattle.text.specs.Paint.{characters};
 ghost use Rattle.text.specs.Dump.{digit_at, digit_line, export_line, psg_line};
 
@@ -12,7 +12,7 @@ use common::answer::DONE;
 impl Output<'_> {
     // Bytes in hexadecimal, two digits each.
     fn digits(&mut self, bytes: &[u8])
-        requires { self.old.at + 2 * length bytes.now ≤ length self.old.bytes.now }
+        requires { Room self.old (2 * length bytes.now) }
         ensures prints { Prints self.old (characters (digit_at bytes.now) (2 * length bytes.now)) self.new }
         ensures value { self.new.at ≡ self.old.at + 2 * length bytes.now }
     {
@@ -23,7 +23,7 @@ impl Output<'_> {
 
     // A line of an answer and bytes.
     fn dumped(&mut self, answer: u8, bytes: &[u8])
-        requires { self.old.at + 2 * length bytes.now + 22 ≤ length self.old.bytes.now }
+        requires { Room self.old (2 * length bytes.now + 22) }
         ensures prints { Prints self.old (digit_line answer bytes.now (2 * length bytes.now)) self.new }
         ensures upper_bound { self.new.at ≤ self.old.at + 2 * length bytes.now + 22 }
     {
@@ -35,7 +35,7 @@ impl Output<'_> {
 
     // The line of an order that exports.
     pub fn exported(&mut self, chip: Chip)
-        requires { self.old.at + 1000 ≤ length self.old.bytes.now }
+        requires { Room self.old 1000 }
         ensures prints { Prints self.old (export_line chip) self.new }
         ensures upper_bound { self.new.at ≤ self.old.at + 1000 }
     {
@@ -47,7 +47,7 @@ impl Output<'_> {
     // The line of an order that shows the PSG's registers.
     #[tactic(auto, unfolding(crate::specs::Dump::psg_line))]
     pub fn psg(&mut self, registers: [u8; 16])
-        requires { self.old.at + 54 ≤ length self.old.bytes.now }
+        requires { Room self.old 54 }
         ensures prints { Prints self.old (psg_line registers) self.new }
         ensures upper_bound { self.new.at ≤ self.old.at + 54 }
     {

@@ -7,7 +7,7 @@ pub mod lines;
 pub mod paint;
 
 ghost use Rattle.std.specs.Prelude.{◌+◌, ◌≤◌, length};
-ghost use Rattle.text.specs.Text.{numeral, spaced_numeral, line_end, kind_name, did_text, Prints};
+ghost use Rattle.text.specs.Text.{numeral, spaced_numeral, line_end, kind_name, did_text, Prints, Room};
 
 use sound::Did;
 use words::WordKind;
@@ -22,7 +22,7 @@ pub struct Output<'a> {
 impl Output<'_> {
     // The bytes of a text.
     pub fn put(&mut self, text: &[u8])
-        requires { self.old.at + length text.now ≤ length self.old.bytes.now }
+        requires { Room self.old (length text.now) }
         ensures { Prints self.old text.now self.new }
     {
         let end = self.at + text.len();
@@ -32,7 +32,7 @@ impl Output<'_> {
 
     // A number in decimal.
     pub fn number(&mut self, n: u64)
-        requires { self.old.at + 20 ≤ length self.old.bytes.now }
+        requires { Room self.old 20 }
         ensures prints { Prints self.old (numeral n) self.new }
         ensures upper_bound { self.new.at ≤ self.old.at + 20 }
     {
@@ -42,7 +42,7 @@ impl Output<'_> {
 
     // A space and a number.
     pub fn spaced(&mut self, n: u64)
-        requires { self.old.at + 21 ≤ length self.old.bytes.now }
+        requires { Room self.old 21 }
         ensures prints { Prints self.old (spaced_numeral n) self.new }
         ensures upper_bound { self.new.at ≤ self.old.at + 21 }
     {
@@ -52,7 +52,7 @@ impl Output<'_> {
 
     // The end of a line.
     pub fn ended(&mut self)
-        requires { self.old.at + 1 ≤ length self.old.bytes.now }
+        requires { Room self.old 1 }
         ensures prints { Prints self.old line_end self.new }
         ensures upper_bound { self.new.at ≤ self.old.at + 1 }
     {
@@ -61,7 +61,7 @@ impl Output<'_> {
 
     // A space and the name of a kind of word.
     fn kind_name(&mut self, kind: WordKind)
-        requires { self.old.at + 8 ≤ length self.old.bytes.now }
+        requires { Room self.old 8 }
         ensures prints { Prints self.old (kind_name kind) self.new }
         ensures upper_bound { self.new.at ≤ self.old.at + 8 }
     {
@@ -76,7 +76,7 @@ impl Output<'_> {
 
     // What a channel did: a dash if it sat out, else the kind and the low 12 bits of the word that it executed.
     pub fn did(&mut self, what: Did)
-        requires { self.old.at + 29 ≤ length self.old.bytes.now }
+        requires { Room self.old 29 }
         ensures prints { Prints self.old (did_text what) self.new }
         ensures upper_bound { self.new.at ≤ self.old.at + 29 }
     {

@@ -1,7 +1,7 @@
 // The lines of output.
 ghost use Rattle.std.specs.Prelude.{◌+◌, ◌*◌, ◌≤◌, length};
 ghost use Rattle.forecast.specs.Contract.{told};
-ghost use Rattle.text.specs.Text.{Prints};
+ghost use Rattle.text.specs.Text.{Prints, Room};
 ghost use Rattle.text.specs.Lines.{answer_line, report_text, step_line, forecast_line, bad_line, short_line};
 
 use crate::Output;
@@ -12,7 +12,7 @@ use sound::Report;
 impl Output<'_> {
     // An answer, and other numbers behind it.
     pub fn answered(&mut self, answer: u8, others: &[u64])
-        requires { self.old.at + 21 * (length others.now + 1) ≤ length self.old.bytes.now }
+        requires { Room self.old (21 * (length others.now + 1)) }
         ensures prints { Prints self.old (answer_line answer others.now) self.new }
         ensures upper_bound { self.new.at ≤ self.old.at + 21 * (length others.now + 1) }
     {
@@ -25,7 +25,7 @@ impl Output<'_> {
 
     // A report: the cycles and the three channels.
     pub fn reported(&mut self, report: Report)
-        requires { self.old.at + 108 ≤ length self.old.bytes.now }
+        requires { Room self.old 108 }
         ensures prints { Prints self.old (report_text report) self.new }
         ensures upper_bound { self.new.at ≤ self.old.at + 108 }
     {
@@ -37,7 +37,7 @@ impl Output<'_> {
 
     // A line that was stepped: the answer and the report.
     pub fn stepped(&mut self, answer: u8, report: Report)
-        requires { self.old.at + 129 ≤ length self.old.bytes.now }
+        requires { Room self.old 129 }
         ensures prints { Prints self.old (step_line answer report) self.new }
         ensures upper_bound { self.new.at ≤ self.old.at + 129 }
     {
@@ -48,7 +48,7 @@ impl Output<'_> {
 
     // A forecast: the answer, lines, least cycles, how many bytes the list takes, and most cycles.
     pub fn forecast(&mut self, foretold: Result<Length, Refusal>, bytes: usize)
-        requires { self.old.at + 105 ≤ length self.old.bytes.now }
+        requires { Room self.old 105 }
         ensures prints { Prints self.old (forecast_line (told foretold).answer (told foretold).lines (told foretold).cycles bytes (told foretold).most) self.new }
         ensures upper_bound { self.new.at ≤ self.old.at + 105 }
     {
@@ -61,7 +61,7 @@ impl Output<'_> {
 
     // A record that names no call.
     pub fn bad(&mut self)
-        requires { self.old.at + 4 ≤ length self.old.bytes.now }
+        requires { Room self.old 4 }
         ensures prints { Prints self.old bad_line self.new }
         ensures upper_bound { self.new.at ≤ self.old.at + 4 }
     {
@@ -70,7 +70,7 @@ impl Output<'_> {
 
     // Input that ends too early.
     pub fn short(&mut self)
-        requires { self.old.at + 6 ≤ length self.old.bytes.now }
+        requires { Room self.old 6 }
         ensures prints { Prints self.old short_line self.new }
         ensures upper_bound { self.new.at ≤ self.old.at + 6 }
     {

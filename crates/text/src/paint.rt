@@ -1,6 +1,6 @@
 // A line as text.
-ghost use Rattle.std.specs.Prelude.{◌≡◌, ◌+◌, ◌≤◌, length, get_or};
-ghost use Rattle.text.specs.Text.{Prints};
+ghost use Rattle.std.specs.Prelude.{◌≡◌, ◌+◌, ◌≤◌, get_or};
+ghost use Rattle.text.specs.Text.{Prints, Room};
 ghost use Rattle.text.specs.Paint.{character, characters, painted_line};
 
 use crate::Output;
@@ -21,7 +21,7 @@ pub fn character(entry: u8) -> u8
 impl Output<'_> {
     // The characters of 640 entries.
     fn entries(&mut self, line: &[u8])
-        requires { self.old.at + 640 ≤ length self.old.bytes.now }
+        requires { Room self.old 640 }
         ensures prints { Prints self.old (characters (λ x. get_or line.now x 0) 640) self.new }
         ensures value { self.new.at ≡ self.old.at + 640 }
     {
@@ -32,7 +32,7 @@ impl Output<'_> {
 
     // The line of a record that shows a line: the answer, and if it was served the entries and the report.
     pub fn painted(&mut self, answer: u8, line: &[u8], report: Report)
-        requires { self.old.at + 770 ≤ length self.old.bytes.now }
+        requires { Room self.old 770 }
         ensures prints { Prints self.old (painted_line answer (λ x. get_or line.now x 0) report) self.new }
         ensures upper_bound { self.new.at ≤ self.old.at + 770 }
     {
