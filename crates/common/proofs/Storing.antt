@@ -2,10 +2,9 @@
 use mathlib.Core.Path.{◌≡◌}
 use mathlib.Core.List.{List, ◌++◌}
 use Prim.Native.Nat.{ℕ, ◌+◌, ◌<◌, ◌≤◌}
-use native.Mathlib.Numerals.{add-one}
 use native.Mathlib.Omega.{arith}
-use lib.ListN.{length, take, set, get_or, length-append}
-use lib.Seq.{sets, take-suc, take-length, length-take-le}
+use lib.ListN.{length, length-append}
+use lib.Seq.{sets, take-length}
 use borrow.Author.Tests.{le-leb, lt-leb}
 use borrow.Rule.Slice.PartMut.{put_mid}
 use Rattle.std.proofs.Common.{◌-◌, ◌∙◌, refl, sym}
@@ -13,22 +12,6 @@ use Rattle.std.proofs.lemmas.List.Edits.{sets-eq}
 use Rattle.std.proofs.lemmas.Slice.{put_mid-paste}
 use Rattle.common.specs.Storing.{Puts, PutsIfRoom}
 use Rattle.common.proofs.Lists.{sets-append}
-
--- one more of some that are stored one by one
-pub put-more :
-    (l buffer bytes : List ℕ) (at i : ℕ) →
-    i < length bytes →
-    buffer ≡ sets l at (take i bytes) →
-    set buffer (at + i) (get_or bytes i 0) ≡ sets l at (take (i + 1) bytes)
-put-more l buffer bytes at i h e =
-    let n : length (take i bytes) ≡ i = length-take-le i bytes (omega arith) in
-    rw (e, add-one, take-suc bytes i 0, ← sets-append, n)
-
--- all of them
-pub put_all : (l buffer bytes : List ℕ) (at i : ℕ) → i ≡ length bytes → buffer ≡ sets l at (take i bytes) → Puts l at bytes buffer (at + i)
-put_all l buffer bytes at i e h =
-    let whole : take i bytes ≡ bytes = simp (e, take-length) in
-    record { place = omega arith; stored = rw whole at h }
 
 -- bytes after bytes
 pub then-put :

@@ -4,7 +4,7 @@
 
 ghost use Rattle.std.specs.Prelude.{◌≡◌};
 ghost use Rattle.std.specs.Iterator.{item_count};
-ghost use Rattle.reader.specs.Reader.{Advanced, first_place, advanced_at, records_left, Nexted, ReadsTake};
+ghost use Rattle.reader.specs.Reader.{first_place, advanced_at, records_left, Nexted, ReadsTake};
 
 use common::answer::DONE;
 use take::Record;

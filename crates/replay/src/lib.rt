@@ -6,7 +6,7 @@ ghost use Rattle.std.specs.Prelude.{◌≡◌, ◌-◌, ◌<◌, length};
 ghost use Rattle.chip.specs.Interrupts.{acknowledge_answer, acknowledged};
 ghost use Rattle.chip.specs.Promises.{Answers};
 ghost use Rattle.take.specs.Open.{records_of};
-ghost use Rattle.replay.specs.Replay.{fresh, refusal_counted, later, replayed};
+ghost use Rattle.replay.specs.Replay.{fresh, refusal_counted, replayed};
 ghost use Rattle.replay.specs.Parts.{progress_of, lines_on, record_replayed, Room, Kept, Calls, Begun, Opened, Tells};
 ghost use Rattle.replay.specs.Contract.{Replays};
 
