@@ -21,27 +21,23 @@ use Rattle.take.specs.Parts.{fitting, measured_answer, FirstBad, Refused}
 use Rattle.take.specs.declared.Record.{Record}
 use Rattle.take.proofs.Storing.{length_file}
 
--- what fits has the room, and numbers of 4 bytes
-pub record Fits (offset count room : ℕ) : Type 0 where
-  pub roomy : offset + 8 * count + 12 ≤ room
-  pub counted : count < 2 ^ 32
-  pub placed : offset < 2 ^ 32
-
-pub fits-so : (offset count room : ℕ) → fitting offset count room ≡ true → Fits offset count room
+-- what is served has the room, and numbers of 4 bytes
+fits-so : (offset count room : ℕ) → fitting offset count room ≡ true → (offset + 8 * count + 12 ≤ room) × (count < 2 ^ 32) × (offset < 2 ^ 32)
 unfolding fitting
 fits-so offset count room e =
     let t = both_true (leb (offset + 8 * count + 12) room) _ e in
     let u = both_true (ltb count (2 ^ 32)) _ t.1 in
-    record { roomy = leb-true _ _ t.0; counted = ltb-true _ _ u.0; placed = ltb-true _ _ u.1 }
+    (leb-true _ _ t.0, ltb-true _ _ u.0, ltb-true _ _ u.1)
 
--- what is served fits
-pub served-fits : (bad : Option ℕ) (offset count room : ℕ) → measured_answer bad offset count room ≡ done → fitting offset count room ≡ true
+pub served-fits :
+    (bad : Option ℕ) (offset count room : ℕ) → measured_answer bad offset count room ≡ done →
+    (offset + 8 * count + 12 ≤ room) × (count < 2 ^ 32) × (offset < 2 ^ 32)
 unfolding measured_answer
 served-fits (Some bad) offset count room e = absurd (omega arith)
 served-fits None offset count room e = go (fitting offset count room) refl
   where
-    go : (f : Bool) → fitting offset count room ≡ f → fitting offset count room ≡ true
-    go true p = p
+    go : (f : Bool) → fitting offset count room ≡ f → (offset + 8 * count + 12 ≤ room) × (count < 2 ^ 32) × (offset < 2 ^ 32)
+    go true p = fits-so offset count room p
     go false p = absurd (let y = simp p at e in omega arith)
 
 module _ (comment ns before : List ℕ) where

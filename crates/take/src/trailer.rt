@@ -25,6 +25,7 @@ fn has_trailer(file: &[u8]) -> bool
 }
 
 // What the trailer of a file says, where its records meet it.
+#[tactic(auto, using(crate::proofs::Trailers::long))]
 pub fn trailer(file: &[u8]) -> Result<Ends, Refusal>
     ensures { Ending file.now result }
 {

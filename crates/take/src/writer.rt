@@ -1,5 +1,5 @@
 // The writer's answer, and the parts of a file stored one after another.
-ghost use Rattle.std.specs.Prelude.{◌≡◌, true, map, ◌+◌, ◌*◌, ◌^◌, ◌<◌, ◌≤◌, length};
+ghost use Rattle.std.specs.Prelude.{◌≡◌, map, ◌+◌, ◌*◌, ◌^◌, ◌<◌, ◌≤◌, length};
 ghost use Rattle.common.specs.Storing.{Puts};
 ghost use Rattle.take.specs.Record.{unpacked};
 ghost use Rattle.take.specs.File.{records_bytes, trailer, file_of};
@@ -54,7 +54,7 @@ fn put_trailer(output: &mut [u8], at: usize, count: usize, offset: usize) -> usi
 
 // A whole file that has the room.
 pub fn put_file(comment: &[u8], records: &[u64], output: &mut [u8]) -> usize
-    requires { fitting (length comment.now) (length records.now) (length output.old) ≡ true }
+    requires { (length comment.now + 8 * length records.now + 12 ≤ length output.old) × (length records.now < 2 ^ 32) × (length comment.now < 2 ^ 32) }
     ensures { Puts output.old 0 (file_of comment.now (map unpacked records.now)) output.new result }
 {
     let offset = common::put(output, 0, comment);

@@ -4,24 +4,20 @@ use Rattle.std.proofs.lemmas.List.{length-map}
 use Rattle.common.proofs.Storing.{had-room}
 use Rattle.take.specs.Record.{unpacked}
 use Rattle.take.proofs.Storing.{length-records, file_put}
-use Rattle.take.proofs.Writing.{fits-so}
 use Rattle.take.proofs.writer.put_file.Goals as goal
 
 pub put_records-end-requires : goal.put_records-end-requires
 put_records-end-requires c =
-    let f = fits-so _ _ _ c.requires in
-    let o = had-room c.put-offset.ensures (omega (arith, f.roomy)) in
-    omega (arith, f.roomy, o.place)
+    let o = had-room c.put-offset.ensures (omega arith) in
+    omega (arith, o.place)
 
 pub put_trailer-requires : goal.put_trailer-requires
 put_trailer-requires c =
     let n = c.args.records.now in
-    let f = fits-so _ _ _ c.requires in
-    let o = had-room c.put-offset.ensures (omega (arith, f.roomy)) in
-    (omega (arith, f.roomy, o.place, c.put_records-end.ensures.place, length-records (map unpacked n), length-map n unpacked), f.counted, omega (arith, f.placed, o.place))
+    let o = had-room c.put-offset.ensures (omega arith) in
+    (omega (arith, o.place, c.put_records-end.ensures.place, length-records (map unpacked n), length-map n unpacked), c.requires.1, omega (arith, o.place))
 
 pub returns : goal.returns
 returns c =
-    let f = fits-so _ _ _ c.requires in
-    let o = had-room c.put-offset.ensures (omega (arith, f.roomy)) in
-    file_put c.args.comment.now c.args.records.now o c.put_records-end.ensures c.put_trailer.ensures
+    file_put c.args.comment.now c.args.records.now (had-room c.put-offset.ensures (omega arith)) c.put_records-end.ensures
+    c.put_trailer.ensures
