@@ -18,7 +18,7 @@ pub struct Reader<'a> {
 
 // The place of a take's first record, or the end of a file that does not open.
 #[tactic(auto, unfolding(crate::specs::Reader::first_place))]
-fn first_at(file: &[u8]) -> usize
+pub fn first_place(file: &[u8]) -> usize
     ensures { result ≡ first_place file.now }
 {
     let opened = take::open(file);
@@ -30,7 +30,7 @@ fn first_at(file: &[u8]) -> usize
 
 // The record that stands at a place, or none at the end, and the next place: the work of the reader.
 #[tactic(auto, unfolding(crate::specs::Reader::found_at, crate::specs::Reader::after_at))]
-fn advance_at(file: &[u8], at: usize) -> (Option<Record>, usize)
+pub fn advance(file: &[u8], at: usize) -> (Option<Record>, usize)
     ensures { record { found = result.0; at = result.1 } ≡ advanced_at file.now at }
 {
     if file.len() < 20 || file.len() - 20 < at {
@@ -46,7 +46,7 @@ impl<'a> Reader<'a> {
     {
         Reader {
             file,
-            at: first_at(file),
+            at: first_place(file),
         }
     }
 }
@@ -60,7 +60,7 @@ impl<'a> Iterator for Reader<'a> {
     ghost remaining = { item_count records_left };
 
     fn next(&mut self) -> Option<Record> {
-        let (found, at) = advance_at(self.file, self.at);
+        let (found, at) = advance(self.file, self.at);
         self.at = at;
         found
     }

@@ -3,4 +3,4 @@ use Rattle.reader.proofs.HandedOut.{reads-take}
 use Rattle.reader.proofs.Reader.over.Goals as goal
 
 pub returns : goal.returns
-returns c = rw c.first_at.ensures (reads-take c.args.file)
+returns c = rw c.first_place.ensures (reads-take c.args.file)

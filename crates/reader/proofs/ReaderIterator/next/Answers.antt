@@ -4,9 +4,9 @@ use Rattle.reader.proofs.HandedOut.{nexted}
 use Rattle.reader.proofs.ReaderIterator.next.Goals as goal
 
 pub returns-clause-steps : goal.returns-clause-steps
-returns-clause-steps c = nexted c.args.self.now.file c.args.self.now.at _ c.advance_at-found.ensures
+returns-clause-steps c = nexted c.args.self.now.file c.args.self.now.at _ c.advance-found.ensures
 
 pub returns-clause-goes : goal.returns-clause-goes
 returns-clause-goes c =
-    let steps = (nexted c.args.self.now.file c.args.self.now.at _ c.advance_at-found.ensures).0 in
+    let steps = (nexted c.args.self.now.file c.args.self.now.at _ c.advance-found.ensures).0 in
     search rules
