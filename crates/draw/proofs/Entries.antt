@@ -14,13 +14,15 @@ use lib.Seq.{get_or-set_same, get_or-set_other}
 use Rattle.common.proofs.Order.{either_side}
 use Rattle.screen.specs.MainLine.{LinePens}
 use Rattle.overlay.specs.Overlay.{first_on, pixel_on}
-use Rattle.overlay.specs.Stretches.{sprite, cover_pixel, first_cover, Spanned, Joined}
+use Rattle.overlay.specs.Kept.{AllSized}
+use Rattle.overlay.specs.Stretches.{sprite, cover_pixel, first_cover, Spanned, Joined as JoinedBy, Covered}
+use Rattle.overlay.specs.Spans.{Joined}
 use Rattle.overlay.specs.declared.shown.LineSprite.{LineSprite}
 use Rattle.overlay.specs.declared.shown.LineSprites.{LineSprites}
 use Rattle.overlay.specs.declared.shown.Spans.{Spans}
 use Rattle.overlay.specs.declared.Stretch.{Stretch}
 use Rattle.overlay.proofs.Search.{search-more, search-found}
-use Rattle.overlay.proofs.Covers.{covers_show}
+use Rattle.overlay.proofs.Covers.{covers_show, covered}
 use Rattle.draw.specs.declared.layout.Edges.{Edges}
 use Rattle.draw.specs.declared.layout.Main.{Main}
 use Rattle.draw.specs.Mixing.{main_at, over_at, covered_at, mixed_at, Has, Changed}
@@ -99,13 +101,26 @@ pub none_covers :
 unfolding covered_at first_cover
 none_covers store list covers none = record { inside = λ x g h. rw none; below = λ x h. refl; beyond = λ x h. refl }
 
--- those that cover a stretch show what the sprites on the line do
-pub stretch_same :
-    (store : List ℕ) {shown : LineSprites} {spans : Spans} {covers : List ℕ} {from end : ℕ} {s : Stretch} →
-    Spanned shown spans → Joined spans from end covers s → (x v : ℕ) → from ≤ x → x < s.until →
-    covered_at store shown.list covers s.count x v ≡ over_at store shown.list shown.count x v
-unfolding covered_at over_at
-stretch_same store spanned joined x v past near = rw (covers_show spanned joined store x past near)
+-- the sprites on a line are sixteen at most, and each that is kept has its size
+pub ready : (shown : LineSprites) → (shown.count ≤ 16) × AllSized shown.list shown.count
+ready shown = (shown.bound, shown.sized)
+
+-- those that cover a stretch
+module _ {shown : LineSprites} {spans : Spans} {covers : List ℕ} {from end : ℕ} {s : Stretch} (spanned : Spanned shown spans)
+    (joined : Joined spans from end covers s) where
+  of_all : JoinedBy spans.ends spans.starts shown.count from end covers s
+  of_all = rw spanned.total at joined
+
+  -- each of them covers all of it
+  pub stretch_covered : Covered shown.list covers s from
+  stretch_covered = covered spanned.starts (ready shown) spanned.ends of_all
+
+  -- and they show what the sprites on the line do
+  pub stretch_same :
+      (store : List ℕ) (x v : ℕ) → from ≤ x → x < s.until →
+      covered_at store shown.list covers s.count x v ≡ over_at store shown.list shown.count x v
+  unfolding covered_at over_at
+  stretch_same store x v past near = rw (covers_show spanned.starts (ready shown) spanned.ends of_all store x past near)
 
 -- with no sprite at all nothing is laid
 pub none_laid : (store : List ℕ) (list : List LineSprite) {before : List ℕ} {count from to : ℕ} → count ≡ 0 → Changed (over_at store list count) from to before before

@@ -4,3 +4,4 @@ pub mod Overlay
 pub mod Kept
 pub mod Rising
 pub mod Stretches
+pub mod Spans

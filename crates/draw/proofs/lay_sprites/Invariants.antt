@@ -1,6 +1,6 @@
 -- The entries up to the end of a stretch are in place, and the covers are those of that stretch.
 use Rattle.std.proofs.Common.{◌≤◌, ◌-◌}
-use Rattle.overlay.specs.Stretches.{Carried}
+use Rattle.overlay.specs.Spans.{Carried}
 use Rattle.draw.specs.Mixing.{over_at, Changed}
 use Rattle.draw.proofs.lay_sprites.Given as goal
 
