@@ -101,6 +101,10 @@ pub none_covers :
 unfolding covered_at first_cover
 none_covers store list covers none = record { inside = λ x g h. rw none; below = λ x h. refl; beyond = λ x h. refl }
 
+-- what is left of a line falls from one position to a later one
+pub measure_falls : {x y to : ℕ} → x < y → y ≤ to → to - y < to - x
+measure_falls less most = omega arith
+
 -- the sprites on a line are sixteen at most, and each that is kept has its size
 pub ready : (shown : LineSprites) → (shown.count ≤ 16) × AllSized shown.list shown.count
 ready shown = (shown.bound, shown.sized)

@@ -1,7 +1,7 @@
 -- With no sprite nothing is laid; a stretch more is laid by those that cover it.
 use native.Mathlib.Nat.{le_of_lt, le_trans}
 use Rattle.overlay.proofs.Covers.{carried_on}
-use Rattle.draw.proofs.Entries.{changed-on, changed-same, stretch_covered, stretch_same, none_laid}
+use Rattle.draw.proofs.Entries.{measure_falls, changed-on, changed-same, stretch_covered, stretch_same, none_laid}
 use Rattle.draw.proofs.lay_sprites.Goals as goal
 
 pub returns-then-shown-eq0 : goal.returns-then-shown-eq0
@@ -11,6 +11,9 @@ pub lay_stretch-requires : goal.lay_stretch-requires
 lay_stretch-requires c =
     let j = c.next_stretch-s.ensures in
     (le_of_lt j.ending.some, le_trans j.inside c.args.edges.in_line, stretch_covered c.of-spans.ensures j)
+
+pub loop-s-smaller : goal.loop-s-smaller
+loop-s-smaller c = let j = c.next_stretch-s.ensures in measure_falls j.ending.some j.inside
 
 pub loop-s-preserved : goal.loop-s-preserved
 loop-s-preserved c =
