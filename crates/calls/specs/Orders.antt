@@ -16,17 +16,17 @@ use Rattle.text.specs.Text.{Appends}
 use Rattle.text.specs.Lines.{one_line, two_line, three_line, step_line, forecast_line, bad_line}
 use Rattle.text.specs.Paint.{painted_line}
 use Rattle.text.specs.Dump.{export_line, psg_line}
-use Rattle.calls.specs.declared.Machine.{Machine}
+use Rattle.calls.specs.declared.Runner.{Runner}
 
 -- what a scene hands on from one order to the next: the world, and 16 bytes that wait for a start, an area or a list
 pub record Running : Type 0 where
   pub world : World
   pub waiting : List ℕ
 
--- that of a machine
-abbrev pub running_of : Machine → Running
+-- that of a runner
+abbrev pub running_of : Runner → Running
 running_of m =
-    record { world = world_of m.chip m.ram.now m.store.now m.song.now m.picture.now m.slots.now; waiting = m.waiting }
+    record { world = world_of m.machine.chip m.ram.now m.store.now m.song.now m.picture.now m.slots.now; waiting = m.machine.waiting }
 
 -- at first, and after a reset
 abbrev pub none_waiting : List ℕ
@@ -157,8 +157,8 @@ pub record Does (s : Running) (a : Act) (s' : Running) (before : List ℕ) (at :
   pub puts : Appends before at (line_by s a) after at'
   pub bound : at' ≤ at + 1024
 
--- a machine that lends the same buffers as before, RAM, the pixel store and the output as long as they were
-pub record SameBuffers (m m' : Machine) : Type 0 where
+-- a runner that lends the same buffers as before, RAM, the pixel store and the output as long as they were
+pub record SameBuffers (m m' : Runner) : Type 0 where
   pub ram : m'.ram.ghost_name ≡ m.ram.ghost_name
   pub store : m'.store.ghost_name ≡ m.store.ghost_name
   pub song : m'.song.ghost_name ≡ m.song.ghost_name
@@ -169,7 +169,7 @@ pub record SameBuffers (m m' : Machine) : Type 0 where
   pub store_size : length m'.store.now ≡ length m.store.now
   pub out_size : length m'.out.bytes.now ≡ length m.out.bytes.now
 
--- a machine does this
-pub record Performs (m : Machine) (a : Act) (m' : Machine) : Type 0 where
+-- a runner does this
+pub record Performs (m : Runner) (a : Act) (m' : Runner) : Type 0 where
   pub does : Does (running_of m) a (running_of m') m.out.bytes.now m.out.at m'.out.bytes.now m'.out.at
   pub lent : SameBuffers m m'

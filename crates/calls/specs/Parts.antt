@@ -2,10 +2,10 @@
 use Rattle.std.specs.Prelude.{◌≡◌, List, ℕ, ◌+◌, ◌≤◌}
 use Rattle.chip.specs.declared.Chip.{Chip}
 use Rattle.text.specs.Text.{Prints}
-use Rattle.calls.specs.declared.Machine.{Machine}
+use Rattle.calls.specs.declared.Runner.{Runner}
 
--- a machine that has put this line, and has this chip; else it is as before
-pub record Tells (m : Machine) (next : Chip) (text : List ℕ) (m' : Machine) : Type 0 where
-  pub is : m' ≡ record m { chip = next; out = m'.out }
+-- a runner that has put this line, and has this chip; else it is as before
+pub record Tells (m : Runner) (next : Chip) (text : List ℕ) (m' : Runner) : Type 0 where
+  pub is : m' ≡ record m { machine = record m.machine { chip = next }; out = m'.out }
   pub prints : Prints m.out text m'.out
   pub bound : m'.out.at ≤ m.out.at + 1024

@@ -18,12 +18,18 @@ use placing::PlacedList;
 use sound::Accesses;
 use text::Output;
 
-// The chip, the bytes that wait for a start, an area or a list, RAM, the pixel store, the places of the song and of the picture
-// editor's record and those of placed lists, and the output.
-#[derive(Drop)]
-pub struct Machine<'a> {
+// The chip, and the bytes that wait for a start, an area or a list.
+#[derive(Clone, Copy)]
+pub struct Machine {
     pub chip: Chip,
     pub waiting: [u8; 16],
+}
+
+// The machine with what it is lent: RAM, the pixel store, the places of the song and of the picture editor's record and those of
+// placed lists, and the output.
+#[derive(Drop)]
+pub struct Runner<'a> {
+    pub machine: Machine,
     pub ram: &'a mut [u8],
     pub store: &'a mut [u8],
     pub song: &'a mut [u32; 256],
@@ -76,13 +82,13 @@ fn copied_out(ram: &[u8], address: u16, list: &mut [u8])
     }
 }
 
-impl Machine<'_> {
+impl Runner<'_> {
     // A call that answers one number.
     fn answered(&mut self, told: Answered)
         requires { Room self.old.out 1024 }
         ensures { Tells self.old told.chip (one_line told.answer) self.new }
     {
-        self.chip = told.chip;
+        self.machine.chip = told.chip;
         self.out.answered(told.answer, &[]);
     }
 
@@ -91,7 +97,7 @@ impl Machine<'_> {
         requires { Room self.old.out 1024 }
         ensures { Tells self.old told.chip (three_line told.answer told.address told.handle) self.new }
     {
-        self.chip = told.chip;
+        self.machine.chip = told.chip;
         self.out.answered(
             told.answer,
             &[u64::from(told.address), u64::from(told.handle)],
@@ -101,7 +107,7 @@ impl Machine<'_> {
     // What is always done.
     fn done(&mut self)
         requires { Room self.old.out 1024 }
-        ensures { Tells self.old self.old.chip (one_line done) self.new }
+        ensures { Tells self.old self.old.machine.chip (one_line done) self.new }
     {
         self.out.answered(DONE, &[]);
     }
@@ -111,7 +117,7 @@ impl Machine<'_> {
         requires { Room self.old.out 1024 }
         ensures { Performs self.old (calls (bc value)) self.new }
     {
-        self.answered(chip::ports::write_bc(self.chip, value));
+        self.answered(chip::ports::write_bc(self.machine.chip, value));
     }
 
     // A byte to the 6845's data port.
@@ -119,7 +125,7 @@ impl Machine<'_> {
         requires { Room self.old.out 1024 }
         ensures { Performs self.old (calls (bd value)) self.new }
     {
-        self.answered(chip::ports::write_bd(self.chip, value));
+        self.answered(chip::ports::write_bd(self.machine.chip, value));
     }
 
     // A byte to 7Fxx.
@@ -127,7 +133,7 @@ impl Machine<'_> {
         requires { Room self.old.out 1024 }
         ensures { Performs self.old (calls (gate value)) self.new }
     {
-        self.answered(chip::ports::write_7f(self.chip, value));
+        self.answered(chip::ports::write_7f(self.machine.chip, value));
     }
 
     // A page write of an editor.
@@ -137,10 +143,15 @@ impl Machine<'_> {
     {
         let told = match editor {
             Editor::Song => page::page_write(
-                self.chip, editor, self.store, self.song, address, value,
+                self.machine.chip,
+                editor,
+                self.store,
+                self.song,
+                address,
+                value,
             ),
             Editor::Picture => page::page_write(
-                self.chip,
+                self.machine.chip,
                 editor,
                 self.store,
                 self.picture,
@@ -157,8 +168,8 @@ impl Machine<'_> {
         ensures { Performs self.old (calls (undo editor)) self.new }
     {
         let told = match editor {
-            Editor::Song => page::undo(self.chip, editor, self.store, self.song),
-            Editor::Picture => page::undo(self.chip, editor, self.store, self.picture),
+            Editor::Song => page::undo(self.machine.chip, editor, self.store, self.song),
+            Editor::Picture => page::undo(self.machine.chip, editor, self.store, self.picture),
         };
         self.answered(told);
     }
@@ -168,7 +179,7 @@ impl Machine<'_> {
         requires { Room self.old.out 1024 }
         ensures { Performs self.old exports self.new }
     {
-        self.out.exported(self.chip);
+        self.out.exported(self.machine.chip);
     }
 
     // The PSG's registers shown.
@@ -176,7 +187,7 @@ impl Machine<'_> {
         requires { Room self.old.out 1024 }
         ensures { Performs self.old hears self.new }
     {
-        self.out.psg(self.chip.sound.psg);
+        self.out.psg(self.machine.chip.sound.psg);
     }
 
     // A page read of an editor.
@@ -185,7 +196,7 @@ impl Machine<'_> {
         ensures { Performs self.old (calls (read editor address bus)) self.new }
     {
         let store = &mut *self.store;
-        let told = page::page_read(self.chip, editor, store, address, bus);
+        let told = page::page_read(self.machine.chip, editor, store, address, bus);
         self.out.answered(told.answer, &[u64::from(told.byte)]);
     }
 
@@ -194,19 +205,19 @@ impl Machine<'_> {
         requires { Room self.old.out 1024 }
         ensures { Performs self.old (calls ack) self.new }
     {
-        let told = chip::acknowledge::acknowledge(self.chip);
-        self.chip = told.chip;
+        let told = chip::acknowledge::acknowledge(self.machine.chip);
+        self.machine.chip = told.chip;
         self.out.answered(told.answer, &[u64::from(told.vector)]);
     }
 
     // The current line drawn, and the chip stepped to the next.
     fn drawn(&mut self, line: &mut [u8; 640], value: u8) -> Stepped
-        ensures shows { Shows self.old.chip self.old.ram.now self.old.store.now (accesses_in value) line.old line.new result }
-        ensures is { self.new ≡ record self.old { chip = result.chip } }
+        ensures shows { Shows self.old.machine.chip self.old.ram.now self.old.store.now (accesses_in value) line.old line.new result }
+        ensures is { self.new ≡ record self.old { machine = record self.old.machine { chip = result.chip } } }
     {
         let (ram, store) = (&mut *self.ram, &mut *self.store);
-        let stepped = line::line(self.chip, ram, store, line, accesses_in(value));
-        self.chip = stepped.chip;
+        let stepped = line::line(self.machine.chip, ram, store, line, accesses_in(value));
+        self.machine.chip = stepped.chip;
         stepped
     }
 
@@ -255,7 +266,7 @@ impl Machine<'_> {
         ensures { Performs self.old (waits address value) self.new }
     {
         if address < 16 {
-            self.waiting[address as usize] = value;
+            self.machine.waiting[address as usize] = value;
         }
         self.done();
     }
@@ -265,8 +276,8 @@ impl Machine<'_> {
         requires { Room self.old.out 1024 }
         ensures { Performs self.old starts self.new }
     {
-        let owners = owners_in(self.waiting);
-        self.answered(chip::table::start(self.chip, owners));
+        let owners = owners_in(self.machine.waiting);
+        self.answered(chip::table::start(self.machine.chip, owners));
     }
 
     // The area with the bounds that wait.
@@ -274,9 +285,9 @@ impl Machine<'_> {
         requires { Room self.old.out 1024 }
         ensures { Performs self.old gives self.new }
     {
-        let from = number_in(self.waiting, 7);
-        let upto = number_in(self.waiting, 11);
-        self.answered(placing::area(self.chip, from, upto));
+        let from = number_in(self.machine.waiting, 7);
+        let upto = number_in(self.machine.waiting, 11);
+        self.answered(placing::area(self.machine.chip, from, upto));
     }
 
     // A list placed. It stands in RAM from the address on, and the high byte of its length waits.
@@ -284,12 +295,12 @@ impl Machine<'_> {
         requires { Room self.old.out 1024 }
         ensures { Performs self.old (places address value) self.new }
     {
-        let bytes = u16::from_le_bytes([value, self.waiting[15]]);
+        let bytes = u16::from_le_bytes([value, self.machine.waiting[15]]);
         let mut list = [0u8; 65536];
         let list = &mut list[..bytes as usize];
         let ram = &mut *self.ram;
         copied_out(ram, address, list);
-        let told = placing::place(self.chip, self.slots, ram, list);
+        let told = placing::place(self.machine.chip, self.slots, ram, list);
         self.placed(told);
     }
 
@@ -298,7 +309,7 @@ impl Machine<'_> {
         requires { Room self.old.out 1024 }
         ensures { Performs self.old (calls (remove handle)) self.new }
     {
-        let told = placing::remove(self.chip, self.slots, u32::from(handle));
+        let told = placing::remove(self.machine.chip, self.slots, u32::from(handle));
         self.answered(told);
     }
 
@@ -307,7 +318,7 @@ impl Machine<'_> {
         requires { Room self.old.out 1024 }
         ensures { Performs self.old (calls (mute_by channel value)) self.new }
     {
-        self.answered(chip::mute::mute(self.chip, channel, value != 0));
+        self.answered(chip::mute::mute(self.machine.chip, channel, value != 0));
     }
 
     // A reset, which clears the waiting bytes.
@@ -315,8 +326,8 @@ impl Machine<'_> {
         requires { Room self.old.out 1024 }
         ensures { Performs self.old resets self.new }
     {
-        self.chip = chip::start::reset();
-        self.waiting = [0; 16];
+        self.machine.chip = chip::start::reset();
+        self.machine.waiting = [0; 16];
         self.done();
     }
 

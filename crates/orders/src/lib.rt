@@ -7,7 +7,7 @@ ghost use Rattle.text.specs.Text.{Room};
 ghost use Rattle.calls.specs.Orders.{running_of, SameBuffers};
 ghost use Rattle.orders.specs.Letters.{Serves};
 
-use calls::Machine;
+use calls::Runner;
 use editors::Editor;
 
 // An order: a letter for what is to be done, an address and a byte.
@@ -19,7 +19,7 @@ pub struct Order {
 }
 
 // What an order asks for.
-pub fn serve(m: &mut Machine<'_>, o: Order)
+pub fn serve(m: &mut Runner<'_>, o: Order)
     requires { Room m.old.out 1024 × (length m.old.ram.now ≡ 65536) }
     ensures serves { Serves (running_of m.old) o (running_of m.new) m.old.out.bytes.now m.old.out.at m.new.out.bytes.now m.new.out.at }
     ensures lent { SameBuffers m.old m.new }

@@ -1,7 +1,7 @@
 -- The orders of a block of input, one after the other.
 use Rattle.std.specs.Prelude.{◌≡◌, List, ℕ, zero, suc, ◌+◌, ◌-◌, ◌*◌, ◌%◌, ◌≤◌, leb, length, get_or}
 use Rattle.common.specs.Choice.{if}
-use Rattle.calls.specs.declared.Machine.{Machine}
+use Rattle.calls.specs.declared.Runner.{Runner}
 use Rattle.orders.specs.declared.Order.{Order}
 use Rattle.text.specs.Text.{Prints}
 use Rattle.text.specs.Lines.{short_line}
@@ -18,28 +18,28 @@ pub record Takes (block : List ℕ) (i : ℕ) (o : Order) : Type 0 where
   pub place : o.address ≡ address_at block i
   pub byte : o.value ≡ get_or block (i + 3) 0
 
--- a machine whose output lies in its buffer, with whole RAM
-pub record Ready (m : Machine) : Type 0 where
+-- a runner whose output lies in its buffer, with whole RAM
+pub record Ready (m : Runner) : Type 0 where
   pub within : m.out.at ≤ length m.out.bytes.now
   pub buffer : length m.out.bytes.now ≡ 65536
   pub memory : length m.ram.now ≡ 65536
 
--- a machine with room for a line: where there is none, all that waits is written out first
-abbrev pub emptied : Machine → Machine
+-- a runner with room for a line: where there is none, all that waits is written out first
+abbrev pub emptied : Runner → Runner
 emptied m = record m { out = record m.out { at = 0 } }
 
-unfoldable pub roomy : Machine → Machine
+unfoldable pub roomy : Runner → Runner
 roomy m = if (leb m.out.at (length m.out.bytes.now - 1024)) m (emptied m)
 
 -- what making room promises
-pub record Roomy (m r : Machine) : Type 0 where
+pub record Roomy (m r : Runner) : Type 0 where
   pub is : r ≡ roomy m
   pub running : running_of r ≡ running_of m
   pub lent : SameBuffers m r
   pub room : r.out.at + 1024 ≤ length r.out.bytes.now
 
 -- the end of the input, after so many bytes of a block: a part of an order makes the last line
-pub record Ends (m : Machine) (bytes : ℕ) (r : Machine) : Type 0 where
+pub record Ends (m : Runner) (bytes : ℕ) (r : Runner) : Type 0 where
   pub running : running_of r ≡ running_of m
   pub lent : SameBuffers m r
   pub whole : bytes % 4 ≡ 0 → r ≡ m

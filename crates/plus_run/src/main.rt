@@ -7,7 +7,7 @@ ghost use Rattle.std.specs.Prelude.{◌≡◌, ◌/◌, ◌≤◌, length, take}
 ghost use Rattle.calls.specs.Orders.{running_of, SameBuffers};
 ghost use Rattle.plus_run.specs.Blocks.{Takes, Ready, Roomy, Ends, orders_served};
 
-use calls::Machine;
+use calls::{Machine, Runner};
 use common::size::{RAM, STORE};
 use orders::Order;
 use text::Output;
@@ -36,9 +36,9 @@ fn flush(rt: &impl Print, out: &mut Output<'_>)
     out.at = 0;
 }
 
-// A machine is given room for a line.
+// A runner is given room for a line.
 #[tactic(auto, unfolding(crate::specs::Blocks::roomy))]
-fn with_room(rt: &impl Print, m: &mut Machine<'_>)
+fn with_room(rt: &impl Print, m: &mut Runner<'_>)
     requires { (m.old.out.at ≤ length m.old.out.bytes.now) × (1024 ≤ length m.old.out.bytes.now) }
     ensures { Roomy m.old m.new }
 {
@@ -60,7 +60,7 @@ fn order_in(bytes: [u8; 4]) -> Order
 }
 
 // Every whole order of a block.
-fn orders(rt: &impl Print, m: &mut Machine<'_>, block: &[u8])
+fn orders(rt: &impl Print, m: &mut Runner<'_>, block: &[u8])
     requires { Ready m.old }
     ensures ready { Ready m.new }
     ensures lent { SameBuffers m.old m.new }
@@ -74,7 +74,7 @@ fn orders(rt: &impl Print, m: &mut Machine<'_>, block: &[u8])
 }
 
 // The end of the input: a part of an order makes the line `short`.
-fn last(rt: &impl Print, m: &mut Machine<'_>, bytes: usize)
+fn last(rt: &impl Print, m: &mut Runner<'_>, bytes: usize)
     requires { (m.old.out.at ≤ length m.old.out.bytes.now) × (1024 ≤ length m.old.out.bytes.now) }
     ensures { Ends m.old bytes m.new }
 {
@@ -85,7 +85,7 @@ fn last(rt: &impl Print, m: &mut Machine<'_>, bytes: usize)
 }
 
 // Every block of input. A block is filled, so that no order lies across two of them, and one that isn't full is the last.
-fn play(rt: &impl Print, m: &mut Machine<'_>, block: &mut [u8])
+fn play(rt: &impl Print, m: &mut Runner<'_>, block: &mut [u8])
     requires { Ready m.old }
 {
     // a proved loop has to end, so the blocks are counted up to a number that no input reaches
@@ -114,9 +114,12 @@ fn main(rt: HostRuntime) {
         bytes: &mut lines,
         at: 0,
     };
-    let mut machine = Machine {
+    let machine = Machine {
         chip: chip::start::reset(),
         waiting: [0; 16],
+    };
+    let mut runner = Runner {
+        machine,
         ram: &mut ram,
         store: &mut store,
         song: &mut [0; 256],
@@ -124,5 +127,5 @@ fn main(rt: HostRuntime) {
         slots: &mut [0; 64],
         out,
     };
-    play(&rt, &mut machine, &mut [0; 65536]);
+    play(&rt, &mut runner, &mut [0; 65536]);
 }

@@ -1,4 +1,4 @@
--- Some orders are served, and the machine is ready for the next.
+-- Some orders are served, and the runner is ready for the next.
 use Rattle.std.proofs.Common.{◌≡◌}
 use Rattle.calls.specs.Orders.{running_of, SameBuffers}
 use Rattle.plus_run.specs.Blocks.{Ready, orders_served}

@@ -1,4 +1,4 @@
--- The machine is ready for the next block.
+-- The runner is ready for the next block.
 use Rattle.plus_run.specs.Blocks.{Ready}
 use Rattle.plus_run.proofs.play.Given as goal
 

@@ -3,12 +3,12 @@ use Rattle.std.proofs.Common.{ap, rules}
 use Rattle.runs.specs.World.{World}
 use Rattle.calls.specs.Orders.{Running}
 use Rattle.calls.proofs.Shown.{shown-world, painted_line_lem}
-use Rattle.calls.proofs.Machine.painted.Goals as goal
+use Rattle.calls.proofs.Runner.painted.Goals as goal
 
 pub returns : goal.returns
 returns c =
     let m = c.args.self.now in
-    let beside : World → Running = λ w. record { world = w; waiting = m.waiting } in
+    let beside : World → Running = λ w. record { world = w; waiting = m.machine.waiting } in
     let told = c.drawn-told.ensures.shows in
     record {
       does = record {

@@ -1,7 +1,7 @@
 -- The line of the answer, and of the list that is as long as it says.
 use Rattle.std.proofs.Common.{rules}
 use Rattle.calls.specs.Orders.{foretold_line}
-use Rattle.calls.proofs.Machine.foretold.Goals as goal
+use Rattle.calls.proofs.Runner.foretold.Goals as goal
 
 pub returns : goal.returns
 unfolding foretold_line
