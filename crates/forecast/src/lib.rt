@@ -11,7 +11,6 @@ ghost use Rattle.forecast.specs.Pass.{added, passed, Room, Open};
 use common::answer::Refusal;
 use common::size::RAM;
 use sound::Access;
-use words::WordKind;
 
 // The lines of a list, and the least and the most cycles that it takes.
 #[derive(Clone, Copy)]
@@ -26,10 +25,11 @@ pub struct Length {
 fn lines_of(word: u16, prescale: u8) -> u64
     ensures { result ≡ lines_of prescale word }
 {
-    match (words::kind_of(word), words::low_12(word)) {
-        (WordKind::Pause, low @ 1..) => u64::from(low) * (u64::from(prescale) + 1),
-        _ => 1,
+    let low = words::low_12(word);
+    if !words::is_pause(words::kind_of(word)) || low == 0 {
+        return 1;
     }
+    u64::from(low) * (u64::from(prescale) + 1)
 }
 
 // The cycles of one pass of a word, if a LOAD meets this access.
@@ -37,10 +37,10 @@ fn lines_of(word: u16, prescale: u8) -> u64
 fn cycles_of(word: u16, access: Access) -> u64
     ensures { result ≡ cycles_of access word }
 {
-    match words::kind_of(word) {
-        WordKind::Load => 9 + u64::from(sound::disturbance(access)),
-        _ => 2,
+    if words::is_load(words::kind_of(word)) {
+        return 9 + u64::from(sound::disturbance(access));
     }
+    2
 }
 
 // The open count after a word: that of the last REPEAT, 0 once a LOOP has come.

@@ -271,7 +271,7 @@ impl Entry {
     {
         match self.did {
             Did::SatOut => 0,
-            Did::Executed(WordKind::Load, _) => 9 + disturbance(access),
+            Did::Executed(kind, _) if words::is_load(kind) => 9 + disturbance(access),
             Did::Executed(..) => 2,
         }
     }
@@ -283,7 +283,7 @@ impl Turn {
         ensures { psg.new ≡ heard self.channel psg.old self.did }
     {
         match self.did {
-            Did::Executed(WordKind::Load, low) if !self.channel.muted => {
+            Did::Executed(kind, low) if words::is_load(kind) && !self.channel.muted => {
                 psg[(low / 256 % 16) as usize] = (low % 256) as u8;
             }
             _ => {}
