@@ -10,7 +10,7 @@ ghost use Rattle.listing.specs.Contract.{PrintsWords, ReadsText};
 ghost use Rattle.listing.specs.Passes.{Checked, Listed};
 
 use common::answer::{DONE, Refusal};
-use compare::strip_line;
+use compare::begins_with_line;
 use guess::guess;
 use mnemonic::{put_line, width};
 
@@ -114,10 +114,11 @@ fn checked(text: &[u8]) -> Result<usize, FirstBad>
     let mut rest = text;
     let mut count = 0;
     while !rest.is_empty() {
-        let Some(behind) = strip_line(rest, guess(rest)) else {
+        let word = guess(rest);
+        if !begins_with_line(rest, word) {
             return Err(FirstBad(count + 1));
-        };
-        rest = behind;
+        }
+        rest = rest.split_at(width(word)).1;
         count += 1;
     }
     Ok(count)
