@@ -8,7 +8,7 @@ use length_line::{Length, Line};
 // and there is no heap.
 const STDIN_FILENO: i32 = 0;
 
-fn main(rt: HostRuntime) -> std::io::Result<()> {
+fn main(rt: HostRuntime) {
     // one byte more than RAM has, so that a longer image is told from RAM
     let mut image = [0; 65537];
     let n = io::read_full(STDIN_FILENO, &mut image);
@@ -19,5 +19,6 @@ fn main(rt: HostRuntime) -> std::io::Result<()> {
         }),
         Err(refusal) => Err(refusal.number()),
     };
-    println!(rt; "{}", Line(length))
+    // what can't be written is passed over
+    let _ = println!(rt; "{}", Line(length));
 }

@@ -149,11 +149,11 @@ fn row_played(ram: &[u8; 65536], prescale: u8) -> Result<Length, u8> {
     stepped_on(played(ram, prescale)?, ram)
 }
 
-fn main(rt: HostRuntime) -> std::io::Result<()> {
+fn main(rt: HostRuntime) {
     let mut ram = [0; 65536];
     for row in &ROWS {
         put_list(&mut ram, row.words);
-        println!(rt; "{}", Line(row_played(&ram, row.prescale)))?;
+        // what can't be written is passed over
+        let _ = println!(rt; "{}", Line(row_played(&ram, row.prescale)));
     }
-    Ok(())
 }
