@@ -2,16 +2,23 @@
 use mathlib.Core.Path.{◌≡◌}
 use mathlib.Core.List.{List, ◌++◌}
 use Prim.Native.Nat.{ℕ, ◌+◌, ◌<◌, ◌≤◌}
+use native.Mathlib.Numerals.{add-one}
 use native.Mathlib.Omega.{arith}
-use lib.ListN.{length, length-append}
-use lib.Seq.{sets, take-length}
+use lib.ListN.{length, take, set, get_or, length-append}
+use lib.Seq.{sets, take-suc, length-take-le}
 use borrow.Author.Tests.{le-leb, lt-leb}
-use borrow.Rule.Slice.PartMut.{put_mid}
-use Rattle.std.proofs.Common.{◌-◌, ◌∙◌, refl, sym}
-use Rattle.std.proofs.lemmas.List.Edits.{sets-eq}
-use Rattle.std.proofs.lemmas.Slice.{put_mid-paste}
 use Rattle.common.specs.Storing.{Puts, PutsIfRoom}
 use Rattle.common.proofs.Lists.{sets-append}
+
+-- one more of some that are stored one by one
+pub put-more :
+    (l buffer bytes : List ℕ) (at i : ℕ) →
+    i < length bytes →
+    buffer ≡ sets l at (take i bytes) →
+    set buffer (at + i) (get_or bytes i 0) ≡ sets l at (take (i + 1) bytes)
+put-more l buffer bytes at i h e =
+    let n : length (take i bytes) ≡ i = length-take-le i bytes (omega arith) in
+    rw (e, add-one, take-suc bytes i 0, ← sets-append, n)
 
 -- bytes after bytes
 pub then-put :
@@ -24,16 +31,6 @@ then-put p q =
       place = simp length-append (omega (arith, p.place, q.place));
       stored = simp (q.stored, p.stored, p.place, sets-append);
     }
-
--- all of them at once
-pub stored_at_once :
-    (before bytes copied : List ℕ) (at : ℕ) →
-    at + length bytes ≤ length before →
-    copied ≡ bytes →
-    put_mid at (at + length bytes - at) before copied ≡ sets before at bytes
-stored_at_once before bytes copied at h e =
-    put_mid-paste at (at + length bytes - at) before copied bytes (length bytes) e (omega arith) refl
-    ∙ simp (take-length bytes) (sym (sets-eq bytes before at h))
 
 -- by the room: none is stored, or all are
 pub no_room : (before : List ℕ) (at : ℕ) (bytes : List ℕ) → length before < at + length bytes → PutsIfRoom before at bytes before at

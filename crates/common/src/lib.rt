@@ -29,6 +29,7 @@ pub fn byte_at(bytes: &[u8], at: usize) -> u8
 
 // Stores bytes in a buffer from a place on and answers the place after them. Where not all have room none is stored, and the
 // place stays.
+#[tactic(auto, using(crate::proofs::Storing::in_room))]
 pub fn put(buffer: &mut [u8], at: usize, bytes: &[u8]) -> usize
     ensures { PutsIfRoom buffer.old at bytes.now buffer.new result }
 {
@@ -39,6 +40,9 @@ pub fn put(buffer: &mut [u8], at: usize, bytes: &[u8]) -> usize
         return at;
     }
     let end = at + bytes.len();
-    buffer[at..end].copy_from_slice(bytes);
+    // byte by byte: a copy of the slice would have an archive for C need memmove from outside
+    for (i, byte) in bytes.iter().enumerate() {
+        buffer[at + i] = *byte;
+    }
     end
 }

@@ -1,11 +1,9 @@
--- All the bytes are stored at once.
-use Rattle.std.proofs.Common.{refl, rules}
-use Rattle.common.proofs.Storing.{in_room, stored_at_once}
+-- One more of the bytes is stored.
+use Rattle.std.proofs.Common.{rules}
+use Rattle.common.proofs.Storing.{put-more}
 use Rattle.common.proofs.put.Goals as goal
 
-pub returns : goal.returns
-returns c =
-    let copied = c.copy_from_slice in
-    in_room
-    (record { place = refl; stored = stored_at_once c.args.buffer.now c.args.bytes.now copied.new.self c.args.at (search rules) copied.ensures.after })
-    (search rules)
+pub loop-i-preserved : goal.loop-i-preserved
+loop-i-preserved c =
+    let l = c.loop-i in
+    (l.invariant.0, l.invariant.1, search rules, put-more _ l.buffer _ _ l.i (search rules) l.invariant.3)
