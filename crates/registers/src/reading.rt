@@ -50,13 +50,13 @@ fn dcsr(chip: Chip, editor: Editor) -> u8
 }
 
 // What a sprite's register reads as; magnification can't be read.
-fn sprite_read(chip: Chip, n: usize, place: u8, bus: u8) -> u8
-    ensures { result ≡ if (ltb place 4) (shown (get_or chip.sprites n off_sprite) place) bus }
+fn sprite_read(sprites: [Sprite; 16], n: usize, place: u8, bus: u8) -> u8
+    ensures { result ≡ if (ltb place 4) (shown (get_or sprites n off_sprite) place) bus }
 {
     if 4 <= place {
         return bus;
     }
-    chip.sprites.get(n).copied().unwrap_or(OFF).shown(place)
+    sprites.get(n).copied().unwrap_or(OFF).shown(place)
 }
 
 // What a register reads as to an editor.
@@ -65,7 +65,7 @@ pub fn register_read(chip: Chip, editor: Editor, store: &[u8], register: Registe
 {
     match register {
         Register::Pixel(i) => common::byte_at(store, i) % 16,
-        Register::Sprite(n, place) => sprite_read(chip, n, place, bus),
+        Register::Sprite(n, place) => sprite_read(chip.sprites, n, place, bus),
         Register::Palette(i) => picture::palette::byte_of(chip.palette, i),
         Register::Converter => 0,
         Register::Channel(_, _) | Register::Dcsr | Register::Status => dcsr(chip, editor),
