@@ -71,6 +71,15 @@ impl Sink for Writer<'_> {
         self.at = common::put(self.text, self.at, bytes);
     }
 
+    // one byte stored by itself, which is dearer as a part
+    #[inline(always)]
+    fn byte(&mut self, byte: u8) {
+        if self.at < self.text.len() {
+            self.text[self.at] = byte;
+            self.at += 1;
+        }
+    }
+
     ghost joined = { λ s t u a b p q. (q.0 ∙ p.0, then-write p.1 q.1) };
 }
 

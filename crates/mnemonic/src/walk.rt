@@ -1,5 +1,5 @@
 // A word's line handed to a sink, part after part. What is called at more than one place is inlined, so that a sink stays in registers.
-ghost use Rattle.std.specs.Prelude.{◌≡◌, List, ◌++◌, ℕ, ◌/◌, ◌≤◌, ◌<◌};
+ghost use Rattle.std.specs.Prelude.{◌≡◌, List, [], ◌∷◌, ◌++◌, ℕ, ◌/◌, ◌≤◌, ◌<◌};
 ghost use Rattle.digits.specs.Digits.{digits, decimal};
 ghost use Rattle.mnemonic.specs.Mnemonic.{text_line};
 ghost use Rattle.mnemonic.specs.Parts.{decimal_then, load_line_of, word_line};
@@ -13,6 +13,13 @@ pub trait Sink {
     fn part(&mut self, bytes: &[u8])
         ensures { takes self.old bytes.now self.new };
 
+    // Takes one byte.
+    fn byte(&mut self, byte: u8)
+        ensures { takes self.old (byte ∷ []) self.new }
+    {
+        self.part(&[byte]);
+    }
+
     // Bytes after bytes are taken as if they came at once.
     ghost joined: { (s t u : Self) (a b : List ℕ) → takes s a t → takes t b u → takes s (a ++ b) u };
 }
@@ -22,7 +29,7 @@ fn put_one<S: Sink>(sink: &mut S, base: u16, n: u16)
     requires { (0 < base) × (base ≤ 16) }
     ensures { S.takes sink.old (digits base 1 n) sink.new }
 {
-    sink.part(&[digits::character(n % base)]);
+    sink.byte(digits::character(n % base));
 }
 
 // The last two digits of a number in a base.
@@ -60,7 +67,7 @@ fn put_number<S: Sink>(sink: &mut S, name: &[u8], n: u16, after: u8)
 {
     sink.part(name);
     put_decimal(sink, n);
-    sink.part(&[after]);
+    sink.byte(after);
 }
 
 // LOAD, its register and its data.
@@ -69,7 +76,7 @@ fn put_load<S: Sink>(sink: &mut S, word: u16)
 {
     put_number(sink, b"LOAD ", word / 256, b' ');
     put_two(sink, 16, word % 256);
-    sink.part(b"\n");
+    sink.byte(b'\n');
 }
 
 // A word with no name of its own.
@@ -80,7 +87,7 @@ fn put_word<S: Sink>(sink: &mut S, word: u16)
     sink.part(b"WORD ");
     put_two(sink, 16, word / 256);
     put_two(sink, 16, word);
-    sink.part(b"\n");
+    sink.byte(b'\n');
 }
 
 // A control word, with LOOP and without it.
