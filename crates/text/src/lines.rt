@@ -9,6 +9,13 @@ use common::answer::{DONE, Refusal};
 use forecast::Length;
 use sound::Report;
 
+// What is printed of a list that has no length.
+const NONE: Length = Length {
+    lines: 0,
+    cycles: 0,
+    most: 0,
+};
+
 impl Output<'_> {
     // An answer, and other numbers behind it.
     pub fn answered(&mut self, answer: u8, others: &[u64])
@@ -52,11 +59,20 @@ impl Output<'_> {
         ensures prints { Prints self.old (forecast_line (told foretold).answer (told foretold).lines (told foretold).cycles bytes (told foretold).most) self.new }
         ensures upper_bound { self.new.at ≤ self.old.at + 105 }
     {
-        let bytes = bytes as u64;
         match foretold {
-            Ok(told) => self.answered(DONE, &[told.lines, told.cycles, bytes, told.most]),
-            Err(refusal) => self.answered(refusal.number(), &[0, 0, bytes, 0]),
+            Ok(length) => self.forecast_by(DONE, length, bytes),
+            Err(refusal) => self.forecast_by(refusal.number(), NONE, bytes),
         }
+    }
+
+    // The same by any answer number, with any lines and cycles beside it.
+    pub fn forecast_by(&mut self, answer: u8, length: Length, bytes: usize)
+        requires { Room self.old 105 }
+        ensures prints { Prints self.old (forecast_line answer length.lines length.cycles bytes length.most) self.new }
+        ensures upper_bound { self.new.at ≤ self.old.at + 105 }
+    {
+        let bytes = bytes as u64;
+        self.answered(answer, &[length.lines, length.cycles, bytes, length.most]);
     }
 
     // A record that names no call.
