@@ -20,6 +20,7 @@ const OFF: Accesses = Accesses {
 };
 
 // A list of the table, with words that are never reached after its STOP, and its prescale.
+#[derive(Clone, Copy)]
 struct Row {
     words: [u16; 5],
     prescale: u8,
