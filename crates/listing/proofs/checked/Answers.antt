@@ -34,7 +34,7 @@ loop-rest-preserved c =
     let l = c.loop-rest in (
       omega (arith, some c.guess-word.result, c.width.ensures, c.split_at.ensures.back_len),
       stripped l.invariant.1 c.guess-word.ensures (search rules)
-      (begun _ _ c.begins_with_line.ensures c.if-not-begins_with_line.false c.width.ensures c.split_at.ensures.back),
+          (begun _ _ c.begins_with_line.ensures c.if-not-begins_with_line.false c.width.ensures c.split_at.ensures.back),
     )
 
 pub returns : goal.returns
