@@ -1,12 +1,18 @@
 -- The text of words, one more word at a time: its size, whether it has room, and what is written.
-use Rattle.std.proofs.Common.{◌≡◌, ℕ, ◌+◌, ◌<◌, ◌≤◌, List, ◌++◌, length, take, get_or, arith, length-append, append-nil}
+use Rattle.std.proofs.Common.{◌≡◌, ℕ, ◌+◌, ◌<◌, ◌≤◌, List, [], ◌∷◌, ◌++◌, length, take, get_or, arith, length-append, append-nil}
 use Rattle.std.proofs.lemmas.Grind.{flat_map-append}
 use Rattle.std.proofs.lemmas.List.{take_more}
 use Rattle.std.proofs.lemmas.List.Folds.{length-flat_map-take}
 use Rattle.common.specs.Storing.{Puts, PutsIfRoom}
 use Rattle.common.proofs.Storing.{then-put, had-room}
 use Rattle.mnemonic.specs.Mnemonic.{text_line}
+use Rattle.mnemonic.proofs.Lines.{some}
 use Rattle.listing.specs.Text.{text_of}
+
+-- a text has a byte at least for each word
+pub size-least : (ws : List ℕ) → length ws ≤ length (text_of ws)
+size-least [] = omega arith
+size-least (w ∷ ws) = simp length-append (omega (arith, some w, size-least ws))
 
 module _ (ws : List ℕ) (i : ℕ) (h : i < length ws) where
   -- one word more

@@ -131,3 +131,13 @@ sprite-back s p b h w =
     ∙ set-set (sprite_bytes s) p (sprite_kept p b) (sprite_kept p v)
     ∙ ap (set (sprite_bytes s) p) (kept_whole s p)
     ∙ set-get_or (sprite_bytes s) p 0)
+
+-- past the five there is none
+pub no_byte : (s : Sprite) (p : ℕ) → (p ≡ 0 → ⊥) → (p ≡ 1 → ⊥) → (p ≡ 2 → ⊥) → (p ≡ 3 → ⊥) → (p ≡ 4 → ⊥) → 0 ≡ sprite_contents s p
+unfolding sprite_contents
+no_byte s zero a b c d e = absurd (a refl)
+no_byte s (suc zero) a b c d e = absurd (b refl)
+no_byte s (suc (suc zero)) a b c d e = absurd (c refl)
+no_byte s (suc (suc (suc zero))) a b c d e = absurd (d refl)
+no_byte s (suc (suc (suc (suc zero)))) a b c d e = absurd (e refl)
+no_byte s (suc (suc (suc (suc (suc p))))) a b c d e = refl

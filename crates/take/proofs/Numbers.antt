@@ -1,5 +1,5 @@
 -- Laws of numbers as bytes, over the width.
-use native.Mathlib.Nat.{zero-add}
+use native.Mathlib.Nat.{zero-add, suc-add, mul-one, add-mul, mul_assoc}
 use native.Mathlib.Nat.{pow-le-pow_right, pow-suc, mod-one, mod-eq_of_lt, div-eq_of_lt, add-mul-mod_self_right, add-mul-div_right}
 use native.Mathlib.Omega.{arith}
 use mathlib.Core.Path.{◌≡◌, refl, sym, ◌∙◌}
@@ -7,7 +7,7 @@ use mathlib.Core.List.{List, [], ◌∷◌, ◌++◌}
 use Prim.Native.Nat.{ℕ, zero, suc, ◌+◌, ◌*◌, ◌/◌, ◌%◌, ◌^◌, ◌<◌}
 use lib.Arith.{mod-mul}
 use lib.ListN.{length, take, drop}
-use lib.Seq.{get_or-drop}
+use lib.Seq.{take-nil, drop-drop, get_or-drop}
 use Rattle.take.specs.Bytes.{AreBytes, bytes_of, number_of}
 
 pub bytes_below : (k n : ℕ) → AreBytes (bytes_of k n)
@@ -65,3 +65,15 @@ bytes_back k bs h e = rw (← e) (bytes-number bs h)
 pub number-below : (bs : List ℕ) → AreBytes bs → number_of bs < 256 ^ length bs
 number-below [] h = omega arith
 number-below (b ∷ bs) h = rw pow-suc (omega (arith, h 0, number-below bs (λ i. h (suc i))))
+
+-- so many bytes from a place on, in two parts
+number-parts :
+    (j k : ℕ) (bs : List ℕ) → number_of (take (j + k) bs) ≡ number_of (take j bs) + number_of (take k (drop j bs)) * 256 ^ j
+number-parts zero k bs = simp (zero-add, mul-one)
+number-parts (suc j) k [] = simp take-nil (omega arith)
+number-parts (suc j) k (b ∷ bs) = rw (suc-add, number-parts j k bs, pow-suc, add-mul, mul_assoc) (omega arith)
+
+pub number-from :
+    (j k at : ℕ) (bs : List ℕ) →
+    number_of (take (j + k) (drop at bs)) ≡ number_of (take j (drop at bs)) + number_of (take k (drop (at + j) bs)) * 256 ^ j
+number-from j k at bs = rw (← (drop-drop j at bs)) (number-parts j k (drop at bs))

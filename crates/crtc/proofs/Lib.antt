@@ -1,0 +1,2 @@
+-- What other crates may cite of this one.
+pub mod Laws
