@@ -1,4 +1,5 @@
-// A word's line handed to a sink, part after part. What is called at more than one place is inlined, so that a sink stays in registers.
+// A word's line handed to a sink, part after part. What is called at more than one place is inlined, so that a sink stays in registers,
+// and digits beside each other are one part, since each part is asked for its room.
 ghost use Rattle.std.specs.Prelude.{◌≡◌, List, [], ◌∷◌, ◌++◌, ℕ, ◌/◌, ◌≤◌, ◌<◌};
 ghost use Rattle.digits.specs.Digits.{digits, decimal};
 ghost use Rattle.mnemonic.specs.Mnemonic.{text_line};
@@ -37,8 +38,10 @@ fn put_two<S: Sink>(sink: &mut S, base: u16, n: u16)
     requires { (0 < base) × (base ≤ 16) }
     ensures { S.takes sink.old (digits base 2 n) sink.new }
 {
-    put_one(sink, base, n / base);
-    put_one(sink, base, n);
+    sink.part(&[
+        digits::character(n / base % base),
+        digits::character(n % base),
+    ]);
 }
 
 // A number in decimal, of four digits at most.
@@ -75,8 +78,9 @@ fn put_load<S: Sink>(sink: &mut S, word: u16)
     ensures { S.takes sink.old (load_line_of word) sink.new }
 {
     put_number(sink, b"LOAD ", word / 256, b' ');
-    put_two(sink, 16, word % 256);
-    sink.byte(b'\n');
+    let high = digits::character(word % 256 / 16);
+    let low = digits::character(word % 256);
+    sink.part(&[high, low, b'\n']);
 }
 
 // A word with no name of its own.
@@ -84,10 +88,11 @@ fn put_load<S: Sink>(sink: &mut S, word: u16)
 fn put_word<S: Sink>(sink: &mut S, word: u16)
     ensures { S.takes sink.old (word_line word) sink.new }
 {
-    sink.part(b"WORD ");
-    put_two(sink, 16, word / 256);
-    put_two(sink, 16, word);
-    sink.byte(b'\n');
+    let high = digits::character(word / 256 / 16);
+    let next = digits::character(word / 256);
+    let third = digits::character(word / 16);
+    let low = digits::character(word);
+    sink.part(&[b'W', b'O', b'R', b'D', b' ', high, next, third, low, b'\n']);
 }
 
 // A control word, with LOOP and without it.
