@@ -1,11 +1,13 @@
 -- Serves only the loop of `sound_line`: the line with the channels so far worked through, and that with all three it is
 -- the whole line.
 use mathlib.Core.Path.{◌≡◌, refl, ap, ◌∙◌}
+use mathlib.Core.Bool.{false}
 use mathlib.Core.List.{List, [], ◌∷◌}
 use Prim.Native.Nat.{ℕ, zero, suc, ◌+◌, ◌*◌, ◌<◌, ◌≤◌}
 use native.Mathlib.Omega.{arith}
 use native.Mathlib.Numerals.{add-one}
 use lib.ListN.{length, set}
+use lib.Seq.{set-get_or}
 use Rattle.sound.specs.declared.Access.{Access}
 use Rattle.sound.specs.declared.Accesses.{Accesses}
 use Rattle.sound.specs.declared.Channel.{Channel}
@@ -15,7 +17,7 @@ use Rattle.sound.specs.declared.Entry.{Entry}
 use Rattle.sound.specs.declared.Sound.{Sound}
 use Rattle.sound.specs.declared.SoundLine.{SoundLine}
 use Rattle.sound.specs.declared.Turn.{Turn}
-use Rattle.sound.specs.Channels.{turn_of}
+use Rattle.sound.specs.Channels.{active, pause_counted, turn_of}
 use Rattle.sound.specs.Line.{heard, own_cycles, access_of, channel_of, entry_of, sound_after, sound_report, sound_line}
 use Rattle.sound.proofs.Laws.{own-bound}
 use Rattle.sound.proofs.Muting.{mark-stays}
@@ -27,6 +29,11 @@ module _ (ram : List ℕ) (c : Channel) (psg : List ℕ) (turn : Turn) (is : tur
 
   still-heard : heard turn.channel psg turn.did ≡ heard c psg turn.did
   still-heard = search mark
+
+-- a channel that is off sits out as it is
+off-turn : (ram : List ℕ) (c : Channel) → c.enabled ≡ false → turn_of ram c ≡ record { channel = c; did = SatOut }
+unfolding turn_of active pause_counted
+off-turn ram c off = rw off refl
 
 -- the loop's variables as one line
 abbrev pub line_of : Sound → List Entry → ℕ → SoundLine
@@ -61,6 +68,18 @@ module _ (ram : List ℕ) (acs : Accesses) (s₀ : Sound) where
   one_more n cycles own s es a c turn psg e d f h g p =
       let q : psg ≡ heard c s.psg turn.did = p ∙ still-heard ram c s.psg turn f in
       rw (add-one, ← e, q, g, h, f, d)
+
+  -- a channel that is off is left as it is
+  pub off_more :
+      (n cycles own : ℕ) (s : Sound) (es : List Entry) (a : Access) (turn : Turn) (psg : List ℕ) →
+      line_of s es cycles ≡ worked ram acs s₀ n → turn ≡ turn_of ram (channel_of s.channels n) → a ≡ access_of acs n →
+      own ≡ own_cycles a turn.did → psg ≡ heard turn.channel s.psg turn.did → (channel_of s.channels n).enabled ≡ false →
+      line_of (record { channels = s.channels; psg = psg }) (set es n (entry_of turn.did)) (cycles + own)
+      ≡ worked ram acs s₀ (n + 1)
+  off_more n cycles own s es a turn psg e f h g p off =
+      let c : Channel = channel_of s.channels n in
+      let same : turn.channel ≡ c = ap (λ (t : Turn). t.channel) (f ∙ off-turn ram c off) in
+      rw (same, set-get_or) at (one_more n cycles own s es a c turn psg e refl f h g p)
 
   -- each channel adds at most 11 cycles
   cycles_so_far : (n : ℕ) → (worked ram acs s₀ n).report.cycles ≤ 1 + 11 * n

@@ -1,7 +1,8 @@
--- With channel n's turn taken one more channel has been worked through.
+-- With channel n's turn taken one more channel has been worked through, whether or not it is put back.
 use Rattle.std.proofs.Common.{◌≡◌, refl, ◌∙◌, rules, arith}
 use Rattle.sound.specs.Line.{channel_of}
-use Rattle.sound.proofs.Worked.{one_more, room, all-worked}
+use Rattle.sound.proofs.Worked.{one_more, off_more, room, all-worked}
+use Rattle.sound.proofs.sound_line.Goals.{then-sound-n, else-sound-n}
 use Rattle.sound.proofs.sound_line.Goals as goal
 
 pub overflow_add-cycles : goal.overflow_add-cycles
@@ -12,8 +13,12 @@ overflow_add-cycles c =
 pub loop-n-preserved : goal.loop-n-preserved
 loop-n-preserved c =
     let l = c.loop-n in
-    one_more _ _ _ l.n _ _ l.sound l.entries _ (channel_of l.sound.channels l.n) c.line-turn.result _ l.invariant refl
-    c.line-turn.ensures c.of.ensures c.own_cycles-cycles.ensures c.heard.ensures
+    elim c.if-sound-n.branch [
+      | then-sound-n w ↦ rw w.sound-is (one_more _ _ _ l.n _ _ l.sound l.entries _ (channel_of l.sound.channels l.n) c.line-turn.result _ l.invariant refl
+          c.line-turn.ensures c.of.ensures c.own_cycles-cycles.ensures c.heard.ensures)
+      | else-sound-n w ↦ rw w.sound-is (off_more _ _ _ l.n _ _ l.sound l.entries _ c.line-turn.result _ l.invariant
+          c.line-turn.ensures c.of.ensures c.own_cycles-cycles.ensures c.heard.ensures w.if-sound-n.false)
+    ]
 
 pub returns : goal.returns
 returns c =
